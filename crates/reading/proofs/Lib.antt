@@ -1,0 +1,4 @@
+pub mod Picked
+pub mod Once
+pub mod Clip
+pub mod Room

@@ -1,0 +1,4 @@
+pub mod Pick
+pub mod View
+pub mod Said
+pub mod Bytes
