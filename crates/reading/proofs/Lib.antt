@@ -2,3 +2,4 @@ pub mod Picked
 pub mod Once
 pub mod Clip
 pub mod Room
+pub mod Laid

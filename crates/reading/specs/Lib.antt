@@ -2,3 +2,4 @@ pub mod Pick
 pub mod View
 pub mod Said
 pub mod Bytes
+pub mod Lent

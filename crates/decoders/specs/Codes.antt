@@ -1,0 +1,178 @@
+-- The code tables of document 01, "Identity": what each code of a field stands for. A code outside its table is refused by 3, with the
+-- field's number and the code. Assumes nothing.
+use Prim.Native.Nat.{ℕ, _/_, _%_}
+use lib.Dec.{eqb}
+use Rattle.reading.specs.Pick.{pick}
+use Rattle.reading.specs.Said.{Said, gives, refused}
+use Rattle.decoders.specs.declared.identity.SpdRevision.{SpdRevision}
+use Rattle.decoders.specs.declared.identity.DeviceType.{DeviceType}
+use Rattle.decoders.specs.declared.identity.DeviceType.the-variants.{Ddr3, Ddr4, Ddr5, Lpddr5}
+use Rattle.decoders.specs.declared.identity.ModuleType.{ModuleType}
+use Rattle.decoders.specs.declared.identity.ModuleType.the-variants.{Rdimm, Udimm, Sodimm, Lrdimm, Cudimm, Csoudimm, Mrdimm, Camm2, Ddimm, SolderDown}
+use Rattle.decoders.specs.declared.identity.DensityPerDie.{DensityPerDie}
+use Rattle.decoders.specs.declared.identity.DensityPerDie.the-variants.{Gb4, Gb8, Gb12, Gb16, Gb24, Gb32, Gb48, Gb64}
+use Rattle.decoders.specs.declared.identity.Package.{Package}
+use Rattle.decoders.specs.declared.identity.PackageType.{PackageType}
+use Rattle.decoders.specs.declared.identity.PackageType.the-variants.{Monolithic, DualDie, ThreeDs}
+use Rattle.decoders.specs.declared.identity.IoWidth.{IoWidth}
+use Rattle.decoders.specs.declared.identity.IoWidth.the-variants.{X4, X8, X16, X32}
+use Rattle.decoders.specs.declared.identity.BankGroups.{BankGroups}
+use Rattle.decoders.specs.declared.identity.BankGroups.the-variants as groups
+use Rattle.decoders.specs.declared.identity.BanksPerBankGroup.{BanksPerBankGroup}
+use Rattle.decoders.specs.declared.identity.BanksPerBankGroup.the-variants as banks
+
+-- a row of a table: x where the code is k, and else what the rows below say
+abbrev pub row : {A : Type 0} (code k : ℕ) → A → Said A → Said A
+row code k x below = pick (eqb code k) (gives x) below
+
+-- field 1, byte 0, bits 6-4: SPD bytes
+unfoldable pub sizeOf : ℕ → Said ℕ
+sizeOf code =
+    row code 1 256
+    (row code 2 512
+    (row code 3 1024
+    (row code 4 2048
+    (refused 3 1 code))))
+
+-- byte 1: major in the high four bits
+abbrev pub revisionOf : ℕ → SpdRevision
+revisionOf byte1 = record { major = byte1 / 16; minor = byte1 % 16 }
+
+-- byte 2: 0x12 is DDR5; any other is refused by 2, with the byte
+unfoldable pub deviceOf : ℕ → Said DeviceType
+deviceOf byte2 = row byte2 0x12 Ddr5 (refused 2 byte2 0)
+
+-- field 2, byte 3, bits 3-0: module type
+unfoldable pub moduleOf : ℕ → Said ModuleType
+moduleOf code =
+    row code 1 Rdimm
+    (row code 2 Udimm
+    (row code 3 Sodimm
+    (row code 4 Lrdimm
+    (row code 5 Cudimm
+    (row code 6 Csoudimm
+    (row code 7 Mrdimm
+    (row code 8 Camm2
+    (row code 10 Ddimm
+    (row code 11 SolderDown
+    (refused 3 2 code))))))))))
+
+-- field 3, byte 4, bits 4-0: gigabits per die
+unfoldable pub densityOf : ℕ → Said DensityPerDie
+densityOf code =
+    row code 1 Gb4
+    (row code 2 Gb8
+    (row code 3 Gb12
+    (row code 4 Gb16
+    (row code 5 Gb24
+    (row code 6 Gb32
+    (row code 7 Gb48
+    (row code 8 Gb64
+    (refused 3 3 code))))))))
+
+-- field 4, byte 4, bits 7-5: package and dies
+unfoldable pub packageOf : ℕ → Said Package
+packageOf code =
+    row code 0 (record { «package_type» = Monolithic; «die_count» = 1 })
+    (row code 1 (record { «package_type» = DualDie; «die_count» = 2 })
+    (row code 2 (record { «package_type» = ThreeDs; «die_count» = 2 })
+    (row code 3 (record { «package_type» = ThreeDs; «die_count» = 4 })
+    (row code 4 (record { «package_type» = ThreeDs; «die_count» = 8 })
+    (row code 5 (record { «package_type» = ThreeDs; «die_count» = 16 })
+    (refused 3 4 code))))))
+
+-- field 5, byte 6, bits 7-5: I/O width
+unfoldable pub ioWidthOf : ℕ → Said IoWidth
+ioWidthOf code =
+    row code 0 X4
+    (row code 1 X8
+    (row code 2 X16
+    (row code 3 X32
+    (refused 3 5 code))))
+
+-- field 6, byte 7, bits 7-5: bank groups
+unfoldable pub bankGroupsOf : ℕ → Said BankGroups
+bankGroupsOf code =
+    row code 0 groups.One
+    (row code 1 groups.Two
+    (row code 2 groups.Four
+    (row code 3 groups.Eight
+    (refused 3 6 code))))
+
+-- field 7, byte 7, bits 2-0: banks per group
+unfoldable pub banksOf : ℕ → Said BanksPerBankGroup
+banksOf code =
+    row code 0 banks.One
+    (row code 1 banks.Two
+    (row code 2 banks.Four
+    (refused 3 7 code)))
+
+-- field 8, byte 235, bits 2-0: bus width
+unfoldable pub busWidthOf : ℕ → Said ℕ
+busWidthOf code =
+    row code 0 8
+    (row code 1 16
+    (row code 2 32
+    (row code 3 64
+    (refused 3 8 code))))
+
+-- field 9, byte 235, bits 7-5: channels
+unfoldable pub channelsOf : ℕ → Said ℕ
+channelsOf code =
+    row code 0 1
+    (row code 1 2
+    (row code 2 4
+    (row code 3 8
+    (refused 3 9 code))))
+
+-- The numbers that the cases stand for.
+abbrev pub deviceCode : DeviceType → ℕ
+deviceCode Ddr3 = 0x0B
+deviceCode Ddr4 = 0x0C
+deviceCode Ddr5 = 0x12
+deviceCode Lpddr5 = 0x13
+
+abbrev pub moduleCode : ModuleType → ℕ
+moduleCode Rdimm = 1
+moduleCode Udimm = 2
+moduleCode Sodimm = 3
+moduleCode Lrdimm = 4
+moduleCode Cudimm = 5
+moduleCode Csoudimm = 6
+moduleCode Mrdimm = 7
+moduleCode Camm2 = 8
+moduleCode Ddimm = 10
+moduleCode SolderDown = 11
+
+abbrev pub gigabitsIn : DensityPerDie → ℕ
+gigabitsIn Gb4 = 4
+gigabitsIn Gb8 = 8
+gigabitsIn Gb12 = 12
+gigabitsIn Gb16 = 16
+gigabitsIn Gb24 = 24
+gigabitsIn Gb32 = 32
+gigabitsIn Gb48 = 48
+gigabitsIn Gb64 = 64
+
+abbrev pub bitsIn : IoWidth → ℕ
+bitsIn X4 = 4
+bitsIn X8 = 8
+bitsIn X16 = 16
+bitsIn X32 = 32
+
+abbrev pub groupsIn : BankGroups → ℕ
+groupsIn groups.One = 1
+groupsIn groups.Two = 2
+groupsIn groups.Four = 4
+groupsIn groups.Eight = 8
+
+abbrev pub banksIn : BanksPerBankGroup → ℕ
+banksIn banks.One = 1
+banksIn banks.Two = 2
+banksIn banks.Four = 4
+
+-- as in the report table's row of code 9
+abbrev pub packageCode : PackageType → ℕ
+packageCode Monolithic = 1
+packageCode DualDie = 2
+packageCode ThreeDs = 3

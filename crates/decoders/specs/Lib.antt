@@ -1,0 +1,6 @@
+pub mod Codes
+pub mod Identity
+pub mod Cas
+pub mod Timing
+pub mod Clocks
+pub mod Answers
