@@ -1,2 +1,5 @@
 pub mod Fields
 pub mod Listing
+pub mod Least
+pub mod Once
+pub mod Reach

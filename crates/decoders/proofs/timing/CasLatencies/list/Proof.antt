@@ -16,9 +16,6 @@ use Rattle.decoders.specs.Cas.{listFrom, casListOf, casListAfter}
 use Rattle.decoders.proofs.Listing.{few, taken, passed, whole}
 use Rattle.decoders.proofs.timing.CasLatencies.list.Statement.{statement}
 use Rattle.decoders.proofs.timing.CasLatencies.list.Tie as tie
-use Rattle.decoders.proofs.timing.CasLatencies.list.Reads as reads
-use Rattle.decoders.proofs.timing.CasLatencies.list.Lts as lts
-use Rattle.decoders.proofs.timing.CasLatencies.contains.Reads as contains-reads
 
 abbrev Inv-loop : tie.InvT-loop
 Inv-loop self out₀ n₀ bit₀ out n bit = (bit ≤ 40) × (n ≡ length (listFrom self 0 bit)) × (out ≡ laid (listFrom self 0 bit) out₀)
