@@ -1,11 +1,17 @@
 # Roostcord. `make` alone says what there is.
 
-.PHONY: help test surface fmt
+IMAGE ?= samples/ddr5-4800.bin
+
+.PHONY: help lint test surface fmt
 
 help:
+	@echo 'make lint       lint an image: make lint IMAGE=path (samples/ddr5-4800.bin if none is named)'
 	@echo 'make test       prove every crate, try every must-fail edit, run every program and test (minutes)'
 	@echo 'make surface    hold the public calls to docs/PROMISES.md (a second)'
 	@echo 'make fmt        lay every Rattle and antt file out'
+
+lint:
+	@tools/lint '$(IMAGE)'
 
 test:
 	@tools/test

@@ -3,3 +3,4 @@ pub mod Once
 pub mod Clip
 pub mod Room
 pub mod Laid
+pub mod Made

@@ -5,7 +5,7 @@ use lib.Dec.{eqb}
 use Rattle.reading.specs.Pick.{pick}
 use Rattle.reading.specs.Said.{Told, told, Said, gives, refuses}
 use Rattle.reading.specs.declared.Refusal.{Refusal}
-use Rattle.reading.specs.declared.Refusal.the-variants.{Truncated, NotDdr5, UnknownEnum, ListTooShort, ZeroClock}
+use Rattle.reading.specs.declared.Refusal.the-variants.{Truncated, NotDdr5, UnknownEnum, ListTooShort, WrongOffset, TooLong, ZeroClock, BufferTooSmall, ReportCut, ReportVersion, ReportMalformed, NotReportable}
 
 -- the refusal that a number and its values stand for
 abbrev untold : Told → Refusal
@@ -14,14 +14,28 @@ untold t =
     (pick (eqb (t .number) 2) (NotDdr5 (t .first))
     (pick (eqb (t .number) 3) (UnknownEnum (t .first) (t .second))
     (pick (eqb (t .number) 4) ListTooShort
-    ZeroClock)))
+    (pick (eqb (t .number) 5) (WrongOffset (t .first))
+    (pick (eqb (t .number) 6) TooLong
+    (pick (eqb (t .number) 7) ZeroClock
+    (pick (eqb (t .number) 8) BufferTooSmall
+    (pick (eqb (t .number) 9) ReportCut
+    (pick (eqb (t .number) 10) ReportVersion
+    (pick (eqb (t .number) 11) ReportMalformed
+    NotReportable))))))))))
 
 pub untold-told : (why : Refusal) → untold (told why) ≡ why
 untold-told Truncated = refl
 untold-told (NotDdr5 b) = refl
 untold-told (UnknownEnum f c) = refl
 untold-told ListTooShort = refl
+untold-told (WrongOffset n) = refl
+untold-told TooLong = refl
 untold-told ZeroClock = refl
+untold-told BufferTooSmall = refl
+untold-told ReportCut = refl
+untold-told ReportVersion = refl
+untold-told ReportMalformed = refl
+untold-told NotReportable = refl
 
 -- an answer whose cases are a value and a refusal, read back
 abbrev pub unsaid : {A E : Type 0} → (A → E) → (Refusal → E) → Said A → E

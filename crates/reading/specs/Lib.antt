@@ -3,3 +3,4 @@ pub mod View
 pub mod Said
 pub mod Bytes
 pub mod Lent
+pub mod Made

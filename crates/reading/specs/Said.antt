@@ -2,7 +2,7 @@
 -- that answers an enum goes through the definition that says each of the enum's cases so. Assumes nothing.
 use Prim.Native.Nat.{ℕ}
 use Rattle.reading.specs.declared.Refusal.{Refusal}
-use Rattle.reading.specs.declared.Refusal.the-variants.{Truncated, NotDdr5, UnknownEnum, ListTooShort, ZeroClock}
+use Rattle.reading.specs.declared.Refusal.the-variants.{Truncated, NotDdr5, UnknownEnum, ListTooShort, WrongOffset, TooLong, ZeroClock, BufferTooSmall, ReportCut, ReportVersion, ReportMalformed, NotReportable}
 
 -- a refusal's number and the values that it carries, 0 where it carries fewer than two
 pub record Told : Type 0 where
@@ -19,7 +19,29 @@ told Truncated = no 1 0 0
 told (NotDdr5 byte2) = no 2 byte2 0
 told (UnknownEnum field code) = no 3 field code
 told ListTooShort = no 4 0 0
+told (WrongOffset count) = no 5 count 0
+told TooLong = no 6 0 0
 told ZeroClock = no 7 0 0
+told BufferTooSmall = no 8 0 0
+told ReportCut = no 9 0 0
+told ReportVersion = no 10 0 0
+told ReportMalformed = no 11 0 0
+told NotReportable = no 12 0 0
+
+-- how many values a refusal carries
+abbrev pub carried : Refusal → ℕ
+carried Truncated = 0
+carried (NotDdr5 byte2) = 1
+carried (UnknownEnum field code) = 2
+carried ListTooShort = 0
+carried (WrongOffset count) = 1
+carried TooLong = 0
+carried ZeroClock = 0
+carried BufferTooSmall = 0
+carried ReportCut = 0
+carried ReportVersion = 0
+carried ReportMalformed = 0
+carried NotReportable = 0
 
 pub data Said (A : Type 0) : Type 0 where
   gives : A → Said A

@@ -2,6 +2,7 @@
 // Every offset and every length has an answer, also where their sum would not fit in a usize.
 ghost use mathlib.Core.Path.{_≡_};
 ghost use Rattle.reading.specs.View.{view};
+ghost use Rattle.reading.specs.Said.{told, carried};
 ghost use Rattle.reading.specs.Bytes.{byteAt, insideAt, regionOf};
 
 // Why a call was refused; specs/Said.antt has document 01's number for each case. One enum for all layers.
@@ -14,8 +15,104 @@ pub enum Refusal {
     UnknownEnum { field: u8, value: u8 },
     // The lent list has too few places.
     ListTooShort,
+    // The piece's offset is not the count of bytes taken, which is carried.
+    WrongOffset(usize),
+    // The image would pass 2,048 bytes.
+    TooLong,
     // The clock table was asked for a cycle time of 0.
     ZeroClock,
+    // The buffer is too small for the report.
+    BufferTooSmall,
+    // The report ends before its length says.
+    ReportCut,
+    // The report is of another version.
+    ReportVersion,
+    // The report is otherwise not as document 01 has it.
+    ReportMalformed,
+    // What is to be written is not the form's.
+    NotReportable,
+}
+
+impl Refusal {
+    // Document 01's number.
+    pub fn number(self) -> u8
+        ensures { λ r. ⌜ r ≡ told self .number ⌝ }
+    {
+        match self {
+            Refusal::Truncated => 1,
+            Refusal::NotDdr5(_) => 2,
+            Refusal::UnknownEnum { field: _, value: _ } => 3,
+            Refusal::ListTooShort => 4,
+            Refusal::WrongOffset(_) => 5,
+            Refusal::TooLong => 6,
+            Refusal::ZeroClock => 7,
+            Refusal::BufferTooSmall => 8,
+            Refusal::ReportCut => 9,
+            Refusal::ReportVersion => 10,
+            Refusal::ReportMalformed => 11,
+            Refusal::NotReportable => 12,
+        }
+    }
+
+    // The first value that it carries, and 0 where it carries none.
+    pub fn first(self) -> usize
+        ensures { λ r. ⌜ r ≡ told self .first ⌝ }
+    {
+        match self {
+            Refusal::Truncated => 0,
+            Refusal::NotDdr5(byte2) => byte2 as usize,
+            Refusal::UnknownEnum { field, value: _ } => field as usize,
+            Refusal::ListTooShort => 0,
+            Refusal::WrongOffset(count) => count,
+            Refusal::TooLong => 0,
+            Refusal::ZeroClock => 0,
+            Refusal::BufferTooSmall => 0,
+            Refusal::ReportCut => 0,
+            Refusal::ReportVersion => 0,
+            Refusal::ReportMalformed => 0,
+            Refusal::NotReportable => 0,
+        }
+    }
+
+    // The second, and 0 where it carries fewer than two.
+    pub fn second(self) -> usize
+        ensures { λ r. ⌜ r ≡ told self .second ⌝ }
+    {
+        match self {
+            Refusal::Truncated => 0,
+            Refusal::NotDdr5(_) => 0,
+            Refusal::UnknownEnum { field: _, value } => value as usize,
+            Refusal::ListTooShort => 0,
+            Refusal::WrongOffset(_) => 0,
+            Refusal::TooLong => 0,
+            Refusal::ZeroClock => 0,
+            Refusal::BufferTooSmall => 0,
+            Refusal::ReportCut => 0,
+            Refusal::ReportVersion => 0,
+            Refusal::ReportMalformed => 0,
+            Refusal::NotReportable => 0,
+        }
+    }
+
+    // How many values it carries.
+    pub fn carries(self) -> usize
+        ensures { λ r. ⌜ r ≡ carried self ⌝ }
+    {
+        match self {
+            Refusal::Truncated => 0,
+            Refusal::NotDdr5(_) => 1,
+            Refusal::UnknownEnum { field: _, value: _ } => 2,
+            Refusal::ListTooShort => 0,
+            Refusal::WrongOffset(_) => 1,
+            Refusal::TooLong => 0,
+            Refusal::ZeroClock => 0,
+            Refusal::BufferTooSmall => 0,
+            Refusal::ReportCut => 0,
+            Refusal::ReportVersion => 0,
+            Refusal::ReportMalformed => 0,
+            Refusal::NotReportable => 0,
+        }
+    }
 }
 
 // What stands at an offset.

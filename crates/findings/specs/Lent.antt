@@ -1,0 +1,33 @@
+-- What stands in a lent list after findings were written to it, and what is read from one. Assumes nothing.
+use Prim.Native.Nat.{ℕ}
+use mathlib.Core.List.{List, _++_}
+use lib.Dec.{ltb}
+use lib.ListN.{length, take, drop}
+use Rattle.reading.specs.Pick.{pick}
+use Rattle.findings.specs.Hold.{blankItems}
+use Rattle.findings.specs.declared.Finding.{Finding}
+use Rattle.findings.specs.declared.Findings.{Findings}
+
+-- the list ys with its first n places from xs
+abbrev pub over : {X : Type 0} → ℕ → List X → List X → List X
+over n xs ys = take n xs ++ drop n ys
+
+-- the smaller of two numbers
+unfoldable pub least : ℕ → ℕ → ℕ
+least a b = pick (ltb a b) a b
+
+-- how many places of a list of len are written: none where it has fewer than need, and else the smallest of count, 15 and len
+unfoldable pub placesOf : ℕ → ℕ → ℕ → ℕ
+placesOf len need count = pick (ltb len need) 0 (least count (least 15 len))
+
+-- how many of len findings are read: all of them, and none where they are more than 15
+unfoldable pub keptOf : ℕ → ℕ
+keptOf len = pick (ltb len 16) len 0
+
+-- a lent list by value: what is read of it over blank places, beside its length
+abbrev pub loadedOf : List Finding → Findings
+loadedOf ys = record { items = over (keptOf (length ys)) ys blankItems; count = length ys }
+
+-- a lent list after a call that writes the findings l and asks for need places: as it was where it has fewer
+unfoldable pub listed : ℕ → List Finding → List Finding → List Finding
+listed need l ys = pick (ltb (length ys) need) ys (l ++ drop (length l) ys)

@@ -1,0 +1,108 @@
+// Findings: the record, fifteen of them by value with a count, and the two loops between those and a lent list.
+ghost use mathlib.Core.Path.{_≡_};
+ghost use lib.ListN.{length};
+ghost use Rattle.findings.specs.Hold.{blankFinding, blankItems};
+ghost use Rattle.findings.specs.Lent.{over, placesOf, keptOf, loadedOf};
+
+pub enum Severity {
+    // The image breaks a rule that it must keep.
+    Error,
+    // The image is allowed, and is likely not what was meant.
+    Warning,
+    // The image is allowed; the reader may want to know.
+    Info,
+}
+
+pub struct Finding {
+    pub code: u8,
+    pub severity: Severity,
+    pub sub: u8,
+    pub first: u32,
+    pub second: u32,
+    pub third: u32,
+}
+
+// What one rule answers.
+pub enum Found {
+    Nothing,
+    One(Finding),
+}
+
+// The first `count` places of `items` are in use; the others are blank.
+pub struct Findings {
+    pub items: [Finding; 15],
+    pub count: usize,
+}
+
+// What stands in a place that is not in use.
+pub fn blank() -> Finding
+    ensures { λ r. ⌜ r ≡ blankFinding ⌝ }
+{
+    Finding {
+        code: 0,
+        severity: Severity::Info,
+        sub: 0,
+        first: 0,
+        second: 0,
+        third: 0,
+    }
+}
+
+// Fifteen places, none in use.
+pub fn blanks() -> [Finding; 15]
+    ensures { λ r. ⌜ r ≡ blankItems ⌝ }
+{
+    let one = blank();
+    [one; 15]
+}
+
+// How many places of a list of `len` places are written: none where it has fewer than `need`.
+pub fn places(len: usize, need: usize, count: usize) -> usize
+    ensures { λ r. ⌜ r ≡ placesOf len need count ⌝ }
+{
+    if len < need {
+        0
+    } else if 15 < len {
+        if count < 15 { count } else { 15 }
+    } else if count < len {
+        count
+    } else {
+        len
+    }
+}
+
+// Writes the findings to the front of a lent list, and says how many places it wrote.
+pub fn fill(list: &mut [Finding], need: usize, found: Findings) -> usize
+    ensures { λ r. ⌜ (r ≡ placesOf (length (now (list .entry))) need (found .count)) × (now (list .exit) ≡ over r (found .items) (now (list .entry))) ⌝ }
+{
+    let n = places(list.len(), need, found.count);
+    let items = found.items;
+    let mut i = 0;
+    while i < n {
+        list[i] = items[i];
+        i += 1;
+    }
+    n
+}
+
+// How many of a list of `len` findings are read: none where they are more than fifteen.
+pub fn kept(len: usize) -> usize
+    ensures { λ r. ⌜ r ≡ keptOf len ⌝ }
+{
+    if len < 16 { len } else { 0 }
+}
+
+// A lent list by value, beside its length: where that is above fifteen the list is too long, and none of it is read.
+pub fn load(list: &[Finding]) -> Findings
+    ensures { λ r. ⌜ r ≡ loadedOf (now (list .entry)) ⌝ }
+{
+    let len = list.len();
+    let n = kept(len);
+    let mut items = blanks();
+    let mut i = 0;
+    while i < n {
+        items[i] = list[i];
+        i += 1;
+    }
+    Findings { items, count: len }
+}

@@ -1,0 +1,86 @@
+-- A question that looks within the bytes that are kept is answered by them as by the whole image: so is every question of a state.
+-- Assumes nothing.
+use Prim.Native.Nat.{ℕ, zero, suc, _≤_}
+use mathlib.Core.Path.{_≡_, refl, sym, ap, _∙_}
+use mathlib.Core.Bool.{Bool, true}
+use mathlib.Core.List.{List, [], _∷_}
+use native.Mathlib.Omega.{arith}
+use lib.ListN.{length, take}
+use lib.Dec.{leb, ltb}
+use borrow.Author.Tests.{le-leb, lt-ltb, leb-true, ltb-true}
+use Rattle.reading.specs.Pick.{pick}
+use Rattle.reading.specs.View.{View, view, clip, Within}
+use Rattle.reading.proofs.Picked.{by-test}
+use Rattle.reading.proofs.Clip.{within}
+use Rattle.decoders.specs.Identity.{identityOf}
+use Rattle.decoders.specs.Timing.{timingsOf}
+use Rattle.decoders.proofs.Reach.{identity-reach, timings-reach}
+use Rattle.findings.specs.Hold.{holding}
+use Rattle.rules.specs.Lint.{findingsOf, lintOf}
+use Rattle.rules.proofs.Reach.{lint-reach}
+use Rattle.rules.proofs.Never.{at-most-fifteen}
+use Rattle.pieces.specs.Fed.{keptBytes, keptOf, padded, Holds}
+use Rattle.pieces.specs.Run.{Call, run, image}
+use Rattle.pieces.specs.declared.Pieces.{Pieces}
+use Rattle.pieces.proofs.Running.{run-holds, run-same}
+
+-- as many of the padded bytes as there are: the first n
+take-padded : (n : ℕ) (b : List ℕ) → take (length b) (padded n b) ≡ take n b
+unfolding padded
+take-padded zero [] = refl
+take-padded zero (x ∷ b) = refl
+take-padded (suc n) [] = refl
+take-padded (suc n) (x ∷ b) = ap (λ (l : List ℕ). x ∷ l) (take-padded n b)
+
+pub kept-first : {s : Pieces} {b : List ℕ} → Holds s b → keptOf s ≡ take keptBytes b
+kept-first {b = b} h = rw (h .count, h .first) (take-padded keptBytes b)
+
+-- the law, for a definition d that looks within the bytes kept
+pub asked : {X : Type 0} {d : View → X} → Within keptBytes d → {s : Pieces} {b : List ℕ} → Holds s b → d (view (keptOf s)) ≡ d (view b)
+asked {d = d} w {b = b} h = ap (λ (l : List ℕ). d (view l)) (kept-first h) ∙ within d keptBytes w b
+
+-- the same after any run of calls
+pub asked-run : {X : Type 0} {d : View → X} → Within keptBytes d → (cs : List Call) → d (view (keptOf (run cs))) ≡ d (view (image cs))
+asked-run w cs = asked w (run-holds cs)
+
+-- the first n of the first m bytes are the first n
+module _ (n m : ℕ) (h : n ≤ m) where
+  below-both : (k : ℕ) (t : Bool) → pick (leb k n) (pick (leb k m) t true) true ≡ pick (leb k n) t true
+  below-both k t = by-test (leb k n) (λ e. rw (e, le-leb k m (omega (arith, leb-true k n e)))) (λ e. rw e)
+
+  byte-both : (i x : ℕ) → pick (ltb i n) (pick (ltb i m) x 0) 0 ≡ pick (ltb i n) x 0
+  byte-both i x = by-test (ltb i n) (λ e. rw (e, lt-ltb i m (omega (arith, ltb-true i n e)))) (λ e. rw e)
+
+  clip-clip : (v : View) → clip n (clip m v) ≡ clip n v
+  clip-clip v i = record { below = λ k. below-both k (v .below k) i; byte = λ k. byte-both k (v .byte k) i }
+
+  -- what looks within fewer bytes looks within more
+  pub within-more : {X : Type 0} {d : View → X} → Within n d → Within m d
+  within-more {d = d} w v = w v ∙ sym (w (clip m v) ∙ ap d (clip-clip v))
+
+-- every question of a state, after any run of calls, is answered for the bytes that the run brought
+module _ (cs : List Call) where
+  pub run-identity : identityOf (keptOf (run cs)) ≡ identityOf (image cs)
+  unfolding identityOf
+  run-identity = asked-run (within-more 236 keptBytes (omega arith) identity-reach) cs
+
+  pub run-timings : timingsOf (keptOf (run cs)) ≡ timingsOf (image cs)
+  unfolding timingsOf
+  run-timings = asked-run (within-more 94 keptBytes (omega arith) timings-reach) cs
+
+  pub run-findings : findingsOf (keptOf (run cs)) ≡ findingsOf (image cs)
+  run-findings = asked-run lint-reach cs
+
+  pub run-lint : lintOf (keptOf (run cs)) ≡ lintOf (image cs)
+  run-lint i = record { identity = run-identity i; timings = run-timings i; findings = holding (run-findings i) }
+
+  -- and there are never more than fifteen
+  pub run-few : length (findingsOf (keptOf (run cs))) ≤ 15
+  run-few = at-most-fifteen (keptOf (run cs))
+
+  pub run-count : run cs .taken ≡ length (image cs)
+  run-count = run-holds cs .count
+
+-- two runs whose taken pieces join to the same bytes give the same answer to whatever is asked of their states
+pub same-answer : {X : Type 0} (ask : Pieces → X) (cs ds : List Call) → image cs ≡ image ds → ask (run cs) ≡ ask (run ds)
+same-answer ask cs ds e = ap ask (run-same cs ds e)

@@ -1,0 +1,45 @@
+-- Laws of `over`, the bytes of a piece laid over those that are kept: it recurses on both, and so does each law. Assumes nothing.
+use Prim.Native.Nat.{ℕ, zero, suc, _+_, _-_, min, _≤_, _<_}
+use mathlib.Core.Path.{_≡_, refl, sym, ap}
+use mathlib.Core.List.{List, [], _∷_}
+use native.Mathlib.Nat.{suc-add, zero-add, le-of-suc-le-suc, not-suc-le-zero}
+use native.Mathlib.Omega.{arith}
+use lib.ListN.{length, take, getD, set}
+use lib.Seq.{take-all}
+use lib.Dec.{leb}
+use borrow.Author.Tests.{leb-true, leb-false}
+use Rattle.reading.proofs.Picked.{by-test}
+use Rattle.pieces.specs.Fed.{over}
+
+-- nothing laid over
+pub over-none : (k : List ℕ) (at : ℕ) → over k at [] ≡ k
+unfolding over
+over-none [] at = refl
+over-none (x ∷ k) zero = refl
+over-none (x ∷ k) (suc at) = ap (λ (l : List ℕ). x ∷ l) (over-none k at)
+
+-- one byte more is laid over; past k's end neither side changes
+pub over-more : (k : List ℕ) (at : ℕ) (p : List ℕ) (j : ℕ) → j < length p → set (over k at (take j p)) (at + j) (getD p j 0) ≡ over k at (take (suc j) p)
+unfolding over
+over-more [] at p j h = refl
+over-more (x ∷ k) (suc at) p j h = rw suc-add (ap (λ (l : List ℕ). x ∷ l) (over-more k at p j h))
+over-more (x ∷ k) zero [] j h = absurd (not-suc-le-zero h)
+over-more (x ∷ k) zero (y ∷ p) zero h = ap (λ (l : List ℕ). y ∷ l) (sym (over-none k zero))
+over-more (x ∷ k) zero (y ∷ p) (suc j) h =
+    rw zero-add (ap (λ (l : List ℕ). y ∷ l) (rw zero-add at (over-more k zero p j (le-of-suc-le-suc h))))
+
+-- what would stand past k's end does not matter
+pub over-cut : (k : List ℕ) (at : ℕ) (p : List ℕ) (j : ℕ) → length k ≤ at + j → over k at (take j p) ≡ over k at p
+unfolding over
+over-cut [] at p j h = refl
+over-cut (x ∷ k) (suc at) p j h = ap (λ (l : List ℕ). x ∷ l) (over-cut k at p j (omega arith))
+over-cut (x ∷ k) zero [] zero h = refl
+over-cut (x ∷ k) zero [] (suc j) h = refl
+over-cut (x ∷ k) zero (y ∷ p) zero h = absurd (omega arith)
+over-cut (x ∷ k) zero (y ∷ p) (suc j) h = ap (λ (l : List ℕ). y ∷ l) (over-cut k zero p j (omega arith))
+
+-- the same, where as many bytes are laid over as there is room for
+pub over-end : (k : List ℕ) (at : ℕ) (p : List ℕ) (n : ℕ) → n ≡ min (length p) (length k - at) → over k at (take n p) ≡ over k at p
+over-end k at p n e = by-test (leb (length p) n)
+    (λ q. ap (over k at) (take-all n p (leb-true (length p) n q)))
+    (λ q. over-cut k at p n (omega (arith, leb-false (length p) n q)))

@@ -1,0 +1,164 @@
+// An image of at most 2,048 bytes that arrives in pieces, each with its offset. The state goes in by value and comes back.
+ghost use mathlib.Core.Path.{_≡_};
+ghost use Prim.Native.Nat.{_-_, min};
+ghost use lib.ListN.{length, take};
+ghost use Rattle.decoders.specs.Answers.{identitySaid, timingsSaid};
+ghost use Rattle.decoders.specs.Identity.{identityOf};
+ghost use Rattle.decoders.specs.Timing.{timingsOf};
+ghost use Rattle.findings.specs.Lent.{listed};
+ghost use Rattle.rules.specs.Lint.{lintSaid, lintOf, lintAnswerSaid, lintAnswerOf, findingsOf};
+ghost use Rattle.pieces.specs.Fed.{freshPieces, over, fedSaid, fedBy, keptOf};
+use decoders::identity::IdentityAnswer;
+use decoders::timing::TimingsAnswer;
+use findings::Finding;
+use reading::Refusal;
+use rules::LintAnswer;
+use rules::Linted;
+
+// The most bytes that an image has.
+const LONGEST: usize = 2048;
+
+// How many of its first bytes are kept: all that any definition looks at.
+pub const KEPT: usize = 510;
+
+// The bytes kept, 0 where none has arrived yet, and the count of bytes taken.
+pub struct Pieces {
+    pub kept: [u8; KEPT],
+    pub taken: usize,
+}
+
+// The count of bytes taken with this piece, or why it was not taken.
+pub enum FeedAnswer {
+    Taken(usize),
+    Refused(Refusal),
+}
+
+// The state after a piece, with the answer. A state that refused a piece is as it was.
+pub struct Fed {
+    pub state: Pieces,
+    pub answer: FeedAnswer,
+}
+
+impl Pieces {
+    // A state that has taken nothing.
+    pub fn fresh() -> Self
+        ensures { λ r. ⌜ r ≡ freshPieces ⌝ }
+    {
+        Self {
+            kept: [0u8; KEPT],
+            taken: 0,
+        }
+    }
+
+    // Takes the piece where its offset is the count taken and the total stays within 2,048. The offset is looked at first.
+    pub fn feed(mut self, offset: usize, piece: &[u8]) -> Fed
+        ensures { λ r. ⌜ fedSaid r ≡ fedBy self offset (now (piece .entry)) ⌝ }
+    {
+        let taken = self.taken;
+        if offset != taken {
+            return Fed {
+                state: self,
+                answer: FeedAnswer::Refused(Refusal::WrongOffset(taken)),
+            };
+        }
+        if LONGEST < taken {
+            return Fed {
+                state: self,
+                answer: FeedAnswer::Refused(Refusal::TooLong),
+            };
+        }
+        if LONGEST - taken < piece.len() {
+            return Fed {
+                state: self,
+                answer: FeedAnswer::Refused(Refusal::TooLong),
+            };
+        }
+        let total = taken + piece.len();
+        lay_kept(&mut self.kept, taken, piece);
+        self.taken = total;
+        Fed {
+            state: self,
+            answer: FeedAnswer::Taken(total),
+        }
+    }
+
+    // The count of bytes taken.
+    pub fn count(self) -> usize
+        ensures { λ r. ⌜ r ≡ self .taken ⌝ }
+    {
+        self.taken
+    }
+
+    // The questions below answer for the image that has arrived, from the bytes that are kept of it.
+    pub fn identity(self) -> IdentityAnswer
+        ensures { λ r. ⌜ identitySaid r ≡ identityOf (keptOf self) ⌝ }
+    {
+        let kept = self.kept;
+        decoders::identity::decode_identity_and_base(arrived(&kept, self.taken))
+    }
+
+    pub fn timings(self) -> TimingsAnswer
+        ensures { λ r. ⌜ timingsSaid r ≡ timingsOf (keptOf self) ⌝ }
+    {
+        let kept = self.kept;
+        decoders::timing::decode_timings(arrived(&kept, self.taken))
+    }
+
+    pub fn lint_image(self) -> Linted
+        ensures { λ r. ⌜ lintSaid r ≡ lintOf (keptOf self) ⌝ }
+    {
+        let kept = self.kept;
+        rules::lint_image(arrived(&kept, self.taken))
+    }
+
+    // The findings go into a lent list of at least fifteen places.
+    pub fn lint(self, list: &mut [Finding]) -> LintAnswer
+        ensures { λ r. ⌜ (lintAnswerSaid r ≡ lintAnswerOf (keptOf self) (now (list .entry))) × (now (list .exit) ≡ listed 15 (findingsOf (keptOf self)) (now (list .entry))) ⌝ }
+    {
+        let len = list.len();
+        let linted = self.lint_image();
+        findings::fill(list, 15, linted.findings);
+        rules::lint_reply(len, linted)
+    }
+}
+
+// How many bytes of a piece of `len` bytes at `at` are kept of `most`.
+fn room(at: usize, len: usize, most: usize) -> usize
+    ensures { λ r. ⌜ r ≡ min len (most - at) ⌝ }
+{
+    if most <= at {
+        return 0;
+    }
+    let n = most - at;
+    if len < n { len } else { n }
+}
+
+// Lays `piece` over `kept` from `at` on; what would stand past its end is dropped.
+pub fn lay(kept: &mut [u8], at: usize, piece: &[u8])
+    ensures { λ _. ⌜ now (kept .exit) ≡ over (now (kept .entry)) at (now (piece .entry)) ⌝ }
+{
+    let n = room(at, piece.len(), kept.len());
+    let mut i = 0;
+    while i < n {
+        kept[at + i] = piece[i];
+        i += 1;
+    }
+}
+
+// The same for the array of a state.
+fn lay_kept(kept: &mut [u8; KEPT], at: usize, piece: &[u8])
+    ensures { λ _. ⌜ now (kept .exit) ≡ over (now (kept .entry)) at (now (piece .entry)) ⌝ }
+{
+    lay(kept, at, piece);
+}
+
+// What has arrived of the bytes that are kept.
+fn arrived(kept: &[u8], taken: usize) -> &[u8]
+    ensures { λ r. ⌜ now r ≡ take taken (now (kept .entry)) ⌝ }
+{
+    if taken < kept.len() {
+        &kept[..taken]
+    } else {
+        kept
+    }
+}

@@ -1,0 +1,149 @@
+-- The two flat arrays and the count hold a list of findings: noting an answer adds it to the list, and the records made of them are the list.
+-- Assumes nothing.
+use Prim.Native.Nat.{ℕ, zero, suc, _+_, _-_, _*_, _<_, _≤_}
+use mathlib.Core.Path.{_≡_, refl, sym, _∙_}
+use mathlib.Core.List.{List, [], _∷_, _++_, append-assoc, append-nil}
+use native.Mathlib.Omega.{arith}
+use native.Mathlib.Numerals.{add-one}
+use native.Mathlib.Nat.{le-refl, suc-add, zero-add}
+use borrow.Author.Tests.{lt-ltb}
+use lib.Dec.{ltb}
+use lib.ListN.{length, take, set, getD, replicate, length-append, length-set}
+use lib.Seq.{set-append-seam, set-at, take-suc, take-length}
+use Rattle.reading.proofs.Picked.{either}
+use Rattle.findings.specs.declared.Severity.{Severity}
+use Rattle.findings.specs.declared.Severity.the-variants.{Error, Warning, Info}
+use Rattle.findings.specs.declared.Finding.{Finding}
+use Rattle.findings.specs.declared.Found.{Found}
+use Rattle.findings.specs.declared.Found.the-variants.{Nothing, One}
+use Rattle.findings.specs.Hold.{blankFinding, holding, toList, cat}
+use Rattle.findings.proofs.Laws.{kept-few}
+use Rattle.rules.specs.Lanes.{Lanes, lanes, severityNumber, severityOf, Three, headOf, numbersOf, joined, stored, threeAt, noted, noteAll, findingIn, firstFindings, recordsOf, flat, lane, lanesHolding}
+
+-- ---- three numbers in a row of a flat list
+set-past : (p q : List ℕ) (k v : ℕ) → set (p ++ q) (length p + k) v ≡ p ++ set q k v
+set-past [] q k v = rw zero-add
+set-past (x ∷ p) q k v = rw (suc-add, set-past p q k v)
+
+stored-past : (p q : List ℕ) (n : ℕ) (t : Three) → length p ≡ 3 * n → stored (p ++ (0 ∷ 0 ∷ 0 ∷ q)) n t ≡ p ++ (t .a ∷ t .b ∷ t .c ∷ q)
+stored-past p q n t e = rw (← e, set-append-seam p 0 (0 ∷ 0 ∷ q) (t .a), set-past p (t .a ∷ 0 ∷ 0 ∷ q) 1 (t .b), set-past p (t .a ∷ t .b ∷ 0 ∷ q) 2 (t .c))
+
+module _ (t : Finding → Three) where
+  length-flat : (l : List Finding) → length (flat t l) ≡ 3 * length l
+  length-flat [] = refl
+  length-flat (f ∷ l) = omega (arith, length-flat l)
+
+  flat-append : (l m : List Finding) → flat t (l ++ m) ≡ flat t l ++ flat t m
+  flat-append [] m = refl
+  flat-append (f ∷ l) m = rw (flat-append l m)
+
+  -- the next place takes one finding more
+  lane-on : (l : List Finding) (f : Finding) → length l < 15 → stored (lane t l) (length l) (t f) ≡ lane t (l ++ (f ∷ []))
+  lane-on l f h =
+      let e : 45 - 3 * length l ≡ suc (suc (suc (45 - 3 * (length l + 1)))) = omega arith in
+      let m : length (l ++ (f ∷ [])) ≡ length l + 1 = length-append l (f ∷ []) in
+      rw (e, m, flat-append l (f ∷ []), append-assoc)
+      (stored-past (flat t l) (replicate (45 - 3 * (length l + 1)) 0) (length l) (t f) (length-flat l))
+
+  -- and a place in use holds its finding
+  lane-at : (l : List Finding) (r : List ℕ) (k : ℕ) → k < length l → threeAt (flat t l ++ r) k ≡ t (getD l k blankFinding)
+  lane-at (f ∷ l) r zero h = refl
+  lane-at (f ∷ l) r (suc k) h =
+      let e₀ : 3 * suc k ≡ suc (suc (suc (3 * k))) = omega arith in
+      let e₁ : 3 * suc k + 1 ≡ suc (suc (suc (3 * k + 1))) = omega arith in
+      let e₂ : 3 * suc k + 2 ≡ suc (suc (suc (3 * k + 2))) = omega arith in
+      rw (e₁, e₂, e₀) (lane-at l r k (omega arith))
+
+-- ---- noting
+-- fresh arrays hold nothing
+abbrev pub fresh : Lanes
+fresh = lanes (replicate 45 0) (replicate 45 0) 0
+
+pub none-held : fresh ≡ lanesHolding []
+unfolding lanesHolding
+none-held = refl
+
+pub note-held : (l : List Finding) (x : Found) → length (l ++ toList x) ≤ 15 → noted (lanesHolding l) x ≡ lanesHolding (l ++ toList x)
+unfolding lanesHolding
+note-held l Nothing h = rw append-nil
+note-held l (One f) h =
+    let m : length (l ++ (f ∷ [])) ≡ length l + 1 = length-append l (f ∷ []) in
+    let k : length l < 15 = omega arith in
+    rw (lt-ltb (length l) 15 k) (λ i. lanes (lane-on headOf l f k i) (lane-on numbersOf l f k i) (sym m i))
+
+-- a row of answers, noted one after the other
+pub noteAll-held : (xs : List Found) (l : List Finding) → length (l ++ cat xs) ≤ 15 → noteAll (lanesHolding l) xs ≡ lanesHolding (l ++ cat xs)
+unfolding noteAll
+noteAll-held [] l h = rw append-nil
+noteAll-held (x ∷ xs) l h =
+    let e : l ++ (toList x ++ cat xs) ≡ (l ++ toList x) ++ cat xs = rw append-assoc in
+    let h′ : length ((l ++ toList x) ++ cat xs) ≤ 15 = rw e at h in
+    rw (note-held l x (omega (arith, length-append (l ++ toList x) (cat xs))), e) (noteAll-held xs (l ++ toList x) h′)
+
+pub noteAll-append : (l : Lanes) (xs ys : List Found) → noteAll l (xs ++ ys) ≡ noteAll (noteAll l xs) ys
+unfolding noteAll
+noteAll-append l [] ys = refl
+noteAll-append l (x ∷ xs) ys = noteAll-append (noted l x) xs ys
+
+-- a chain of notes, link by link; and a row behind a row
+pub note-on : {r f g : Lanes} {x y : Found} → r ≡ noted f x → f ≡ g → x ≡ y → r ≡ noted g y
+note-on p q e = cc
+
+pub row-on : (g : Lanes) (xs : List Found) {r f : Lanes} {ys zs : List Found} → ys ≡ zs → f ≡ noteAll g xs → r ≡ noteAll f ys → r ≡ noteAll g (xs ++ zs)
+row-on g xs {zs = zs} e q p = rw (p, q, e) (sym (noteAll-append g xs zs))
+
+-- noting keeps both lengths
+abbrev AsLong : Lanes → Lanes → Type 0
+AsLong l r = (length (r .heads) ≡ length (l .heads)) × (length (r .numbers) ≡ length (l .numbers))
+
+note-lengths : (l : Lanes) (x : Found) → AsLong l (noted l x)
+note-lengths l Nothing = (refl, refl)
+note-lengths l (One f) = either (AsLong l) (ltb (l .count) 15) (simp length-set (refl, refl)) (refl, refl)
+
+pub noteAll-lengths : {r : Lanes} (l : Lanes) (xs : List Found) → r ≡ noteAll l xs → AsLong l r
+unfolding noteAll
+noteAll-lengths l [] e = rw e (refl, refl)
+noteAll-lengths l (x ∷ xs) e =
+    let p = noteAll-lengths (noted l x) xs e in
+    let q = note-lengths l x in
+    (p .0 ∙ q .0, p .1 ∙ q .1)
+
+-- both lengths stay what they were, by what a call keeps
+pub still : {a b a′ b′ n : ℕ} {R : Type 0} → (a′ ≡ a) × ((b′ ≡ b) × R) → (a ≡ n) × (b ≡ n) → (a′ ≡ n) × (b′ ≡ n)
+still p q = (p .0 ∙ q .0, p .1 .0 ∙ q .1)
+
+-- ---- the records
+severity-back : (s : Severity) → severityOf (severityNumber s) ≡ s
+severity-back Error = refl
+severity-back Warning = refl
+severity-back Info = refl
+
+place-held : (l : List Finding) (k : ℕ) → k < length l → findingIn (lanesHolding l .heads) (lanesHolding l .numbers) k ≡ getD l k blankFinding
+unfolding lanesHolding
+place-held l k h =
+    let z : List ℕ = replicate (45 - 3 * length l) 0 in
+    (λ i. joined (lane-at headOf l z k h i) (lane-at numbersOf l z k h i)) ∙ rw severity-back
+
+first-held : (l : List Finding) (k : ℕ) → k ≤ length l → firstFindings (lanesHolding l .heads) (lanesHolding l .numbers) k ≡ take k l
+first-held l zero h = refl
+first-held l (suc k) h = rw (take-suc l k blankFinding h, first-held l k (omega arith), place-held l k h)
+
+pub records-held : (l : List Finding) → length l ≤ 15 → recordsOf (lanesHolding l) ≡ holding l
+unfolding lanesHolding holding
+records-held l h = rw (kept-few (length l) (omega arith), first-held l (length l) (le-refl (length l)), take-length)
+
+-- a row of answers noted in fresh arrays
+pub whole : {r : Lanes} (xs : List Found) → r ≡ noteAll fresh xs → length (cat xs) ≤ 15 → recordsOf r ≡ holding (cat xs)
+whole xs e h = rw (e, none-held, noteAll-held xs [] h) (records-held (cat xs) h)
+
+-- one record more, in the first blank place
+length-first : (h n : List ℕ) (k : ℕ) → length (firstFindings h n k) ≡ k
+length-first h n zero = refl
+length-first h n (suc k) = omega (arith, length-first h n k, length-append (firstFindings h n k) (findingIn h n k ∷ []))
+
+pub record-on : (h n : List ℕ) (k : ℕ) → k < 15
+    → set (firstFindings h n k ++ replicate (15 - k) blankFinding) k (findingIn h n k) ≡ firstFindings h n (k + 1) ++ replicate (15 - (k + 1)) blankFinding
+record-on h n k lt =
+    let e : 15 - k ≡ suc (15 - (k + 1)) = omega arith in
+    let m : k + 1 ≡ suc k = add-one k in
+    rw (e, m, append-assoc, set-at (firstFindings h n k) blankFinding (replicate (15 - suc k) blankFinding) (findingIn h n k) k (length-first h n k))

@@ -1,0 +1,165 @@
+-- Every finding of an image is inside document 01's report table. Assumes nothing.
+use Prim.Native.Nat.{ℕ, zero, suc, _+_, _/_, _%_, _<_, _≤_}
+use mathlib.Core.Path.{_≡_, refl}
+use mathlib.Core.List.{List, [], _∷_, _++_, map}
+use mathlib.Core.Bool.{true}
+use native.Mathlib.Omega.{arith}
+use native.Mathlib.Nat.{div-le-self}
+use borrow.Author.Tests.{le-leb}
+use lib.Dec.{eqb, ltb}
+use lib.ListN.{getD}
+use Rattle.reading.specs.View.{View, view}
+use Rattle.reading.specs.Said.{Said, gives, refuses}
+use Rattle.reading.specs.Bytes.{insideAt}
+use Rattle.reading.proofs.Picked.{either}
+use Rattle.findings.specs.declared.Found.{Found}
+use Rattle.findings.specs.declared.Found.the-variants.{Nothing, One}
+use Rattle.findings.specs.Hold.{cat}
+use Rattle.decoders.specs.Codes.{bitsIn}
+use Rattle.decoders.specs.Cas.{inSet}
+use Rattle.decoders.specs.Identity.{identityAt}
+use Rattle.decoders.specs.Timing.{le16At, timesAt, timingsAt, rateOf}
+use Rattle.decoders.specs.declared.identity.IdentityAndBase.{IdentityAndBase}
+use Rattle.decoders.specs.declared.identity.IoWidth.{IoWidth}
+use Rattle.decoders.specs.declared.identity.IoWidth.the-variants.{X4, X8, X16, X32}
+use Rattle.decoders.specs.declared.timing.CasLatencies.{CasLatencies}
+use Rattle.decoders.specs.declared.timing.Timings.{Timings}
+use Rattle.rules.specs.declared.TimingOrder.{TimingOrder}
+use Rattle.rules.specs.declared.TimingOrder.the-variants.{RasGeRcd, RcGeRas}
+use Rattle.rules.specs.declared.ClockTimingParam.{ClockTimingParam}
+use Rattle.rules.specs.declared.ClockTimingParam.the-variants.{Trcd, Trp}
+use Rattle.rules.specs.declared.SupportedSet.the-variants.{Known}
+use Rattle.rules.specs.Table.{nonIntegerDeviceCount, timingOrderingViolation, nonIntegerClockTiming, rowOf, inTable, allIn}
+use Rattle.rules.specs.Regions.{firstFrom, regionAt, regionRules}
+use Rattle.rules.specs.Rules.{deviceCount, trcIdentity, ordering, casLatency, clockMultiple, onLadder, standardRate, identityRules, timingRules, each}
+use Rattle.rules.specs.Lint.{onGiven, lintRules, lintAt, findingsOf}
+use Rattle.rules.proofs.Never.{OfGiven, Decoded, decoded}
+
+-- a rule's answer that adds nothing outside the table, and a row of such answers
+abbrev Good : Found → Type 0
+Good Nothing = Unit {0}
+Good (One f) = inTable f ≡ true
+
+data Goods : List Found → Type 0 where
+  done : Goods []
+  more : {x : Found} {xs : List Found} → Good x → Goods xs → Goods (x ∷ xs)
+
+goods-in : (xs : List Found) → Goods xs → allIn (cat xs) ≡ true
+goods-in [] done = refl
+goods-in (Nothing ∷ xs) (more h hs) = goods-in xs hs
+goods-in (One f ∷ xs) (more h hs) = rw (h, goods-in xs hs)
+
+goods-append : {xs ys : List Found} → Goods xs → Goods ys → Goods (xs ++ ys)
+goods-append done k = k
+goods-append (more h hs) k = more h (goods-append hs k)
+
+-- rules on a record, asked of what its decoder said
+goods-given : {A : Type 0} (rules : List (A → Found)) (s : Said A) → OfGiven s (λ a. Goods (each rules a)) → Goods (each (map onGiven rules) s)
+goods-given [] s h = done
+goods-given (rule ∷ rules) (gives a) (more h hs) = more h (goods-given rules (gives a) hs)
+goods-given (rule ∷ rules) (refuses t) h = more tt (goods-given rules (refuses t) h)
+
+silent : {x : Found} → x ≡ Nothing → Good x
+silent e = rw e tt
+
+-- ---- the regions: offsets are below 510, and values are bytes
+module _ (s : List ℕ) (bytes : (i : ℕ) → getD s i 0 < 256) where
+  good-from : (i n : ℕ) → i + n ≤ 65536 → Good (firstFrom (view s) i n)
+  unfolding inTable rowOf
+  good-from i zero h = tt
+  good-from i (suc n) h =
+      either Good (eqb (getD s i 0) 0) (good-from (suc i) n (omega arith))
+      (rw (le-leb i 65535 (omega arith), le-leb (getD s i 0) 255 (omega (arith, bytes i))))
+
+  good-region : (offset len : ℕ) → offset + len ≤ 65536 → Good (regionAt offset len (view s))
+  good-region offset len h = either Good (insideAt (view s) offset len) (good-from offset len h) tt
+
+  good-regions : Goods (each regionRules (view s))
+  good-regions =
+      more (good-region 15 1 (omega arith))
+      (more (good-region 29 1 (omega arith))
+      (more (good-region 103 25 (omega arith))
+      (more (good-region 128 64 (omega arith))
+      (more (good-region 214 16 (omega arith))
+      (more (good-region 236 4 (omega arith))
+      (more (good-region 448 62 (omega arith)) done))))))
+
+-- ---- the identity: widths come from the tables
+io-few : (w : IoWidth) → bitsIn w ≤ 32
+io-few X4 = omega arith
+io-few X8 = omega arith
+io-few X16 = omega arith
+io-few X32 = omega arith
+
+good-count : (bus io : ℕ) → bus ≤ 65535 → io ≤ 65535 → Good (deviceCount bus io)
+unfolding inTable rowOf
+good-count bus io h k =
+    let one : Good (One (nonIntegerDeviceCount bus io)) = rw (le-leb bus 65535 h, le-leb io 65535 k) in
+    either Good (eqb io 0) one (either Good (eqb bus 0) one (either Good (eqb (bus % io) 0) tt one))
+
+good-identity : (s : Said IdentityAndBase) → OfGiven s Decoded → OfGiven s (λ d. Goods (each identityRules d))
+good-identity (gives d) h =
+    more (good-count (d .«primary_bus_width_bits») (bitsIn (d .«io_width»)) (omega arith) (omega (arith, io-few (d .«io_width»))))
+    (more (silent (h .coherent)) done)
+good-identity (refuses t) h = tt
+
+-- ---- the timings
+good-trc : (trc tras trp : ℕ) → Good (trcIdentity trc tras trp)
+unfolding inTable rowOf
+good-trc trc tras trp = either Good (eqb trc (tras + trp)) tt refl
+
+listed-order : (o : TimingOrder) (larger smaller : ℕ) → inTable (timingOrderingViolation o larger smaller) ≡ true
+unfolding inTable rowOf
+listed-order RasGeRcd larger smaller = refl
+listed-order RcGeRas larger smaller = refl
+
+good-order : (o : TimingOrder) (larger smaller : ℕ) → Good (ordering o larger smaller)
+good-order o larger smaller = either Good (ltb larger smaller) (listed-order o larger smaller) tt
+
+good-cas : (taa tck : ℕ) (set : CasLatencies) → taa ≤ 65535 → Good (casLatency taa tck (Known set))
+unfolding inTable rowOf
+good-cas taa tck set h =
+    either Good (eqb tck 0) tt
+    (either Good (eqb (taa % tck) 0)
+    (either Good (inSet set (taa / tck)) tt (rw (le-leb (taa / tck) 65535 (omega (arith, div-le-self taa tck)))))
+    refl)
+
+listed-clock : (p : ClockTimingParam) (value tck : ℕ) → inTable (nonIntegerClockTiming p value tck) ≡ true
+unfolding inTable rowOf
+listed-clock Trcd value tck = refl
+listed-clock Trp value tck = refl
+
+good-clock : (p : ClockTimingParam) (value tck : ℕ) → Good (clockMultiple p value tck)
+good-clock p value tck = either Good (eqb tck 0) tt (either Good (eqb (value % tck) 0) tt (listed-clock p value tck))
+
+good-rate : (rate : ℕ) → Good (standardRate rate)
+unfolding inTable rowOf
+good-rate rate = either Good (eqb rate 0) tt (either Good (onLadder rate) tt refl)
+
+good-timings : (t : Timings) → t .taa .0 ≤ 65535 → Goods (each timingRules t)
+good-timings t h =
+    more (good-trc (t .trc .0) (t .tras .0) (t .trp .0))
+    (more (good-order RasGeRcd (t .tras .0) (t .trcd .0))
+    (more (good-order RcGeRas (t .trc .0) (t .tras .0))
+    (more (good-cas (t .taa .0) (t .«tckavg_min» .0) (t .«supported_cas_latencies») h)
+    (more (good-clock Trcd (t .trcd .0) (t .«tckavg_min» .0))
+    (more (good-clock Trp (t .trp .0) (t .«tckavg_min» .0))
+    (more (good-rate (rateOf (t .«tckavg_min» .0))) done))))))
+
+-- two bytes make a number of at most 65,535
+short : (v : View) (at : ℕ) → v .byte at < 256 → v .byte (at + 1) < 256 → le16At v at ≤ 65535
+unfolding le16At
+short v at h k = omega arith
+
+-- ---- all sixteen rules
+pub inside : (s : List ℕ) → ((i : ℕ) → getD s i 0 < 256) → allIn (findingsOf s) ≡ true
+unfolding lintAt
+inside s bytes =
+    let v = view s in
+    let taa = short v 30 (bytes 30) (bytes 31) in
+    let timed = either (λ said. OfGiven said (λ t. Goods (each timingRules t))) (v .below 94) tt (good-timings (timesAt v) taa) in
+    goods-in (each lintRules v)
+    (goods-append (good-regions s bytes)
+    (goods-append
+    (goods-given identityRules (identityAt v) (good-identity (identityAt v) (decoded v)))
+    (goods-given timingRules (timingsAt v) timed)))

@@ -1,0 +1,9 @@
+pub mod Ladder
+pub mod Scan
+pub mod Gathered
+pub mod Listed
+pub mod Never
+pub mod Reach
+pub mod Inside
+pub mod Benched
+pub mod Once

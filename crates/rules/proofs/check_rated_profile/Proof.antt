@@ -1,0 +1,57 @@
+-- `rules::check_rated_profile` meets its contract: it is a function of `Listed`'s kind that takes a value. A rated profile has five rules, so
+-- its findings fit the five places asked for. Assumes nothing.
+use mathlib.Core.Path.{_≡_, refl, _∙_, ap}
+use native.Mathlib.Omega.{arith}
+use mathlib.Core.List.{List}
+use lib.ListN.{length}
+use Rattle.findings.specs.Hold.{holding}
+use Rattle.findings.specs.Lent.{over, placesOf, listed}
+use Rattle.findings.specs.declared.Finding.{Finding}
+use Rattle.findings.specs.declared.Findings.{Findings}
+use Rattle.findings.proofs.Laws.{length-cat}
+use Rattle.rules.specs.Rules.{ratedRules, each}
+use Rattle.rules.specs.Lint.{ratedFindings, ratedSaid, ratedReplied, ratedOf}
+use Rattle.rules.specs.declared.RatedTimings.{RatedTimings}
+use Rattle.rules.specs.declared.RatedAnswer.{RatedAnswer}
+use Rattle.rules.proofs.RatedTimings as RT
+use Rattle.rules.proofs.RatedTimings.Laws as RT′
+use Rattle.rules.proofs.RatedAnswer as RA
+use Rattle.rules.proofs.RatedAnswer.Laws as RA′
+use Rattle.rules.proofs.Listed.{of-struct, of-enum, of-usize, of-findings, itself, count, Plan, filled-by, by-value}
+use Rattle.rules.proofs.rated_findings.Symbol.{name as #rules·rated-findings}
+use Rattle.rules.proofs.rated_findings.Met as found
+use Rattle.rules.proofs.rated_reply.Symbol.{name as #rules·rated-reply}
+use Rattle.rules.proofs.rated_reply.Met as replied
+use Rattle.rules.proofs.check_rated_profile.Key.{name as #rules·check-rated-profile}
+use Rattle.rules.proofs.check_rated_profile.Statement.{statement}
+use Rattle.rules.proofs.check_rated_profile.Code as code
+
+keeps : (r : RatedTimings) (xs : List Finding) (f : Findings) (a : RatedAnswer) → f ≡ holding (ratedFindings r) → ratedSaid a ≡ ratedReplied (length xs) (f .count)
+    → (ratedSaid a ≡ ratedOf r xs) × (over (placesOf (length xs) 5 (f .count)) (f .items) xs ≡ listed 5 (ratedFindings r) xs)
+unfolding holding ratedFindings ratedOf
+keeps r xs f a e e₂ =
+    let h = length-cat (each ratedRules r) in
+    (e₂ ∙ ap (λ (g : Findings). ratedReplied (length xs) (g .count)) e, filled-by (ratedFindings r) xs 5 e (omega arith) h)
+
+abbrev plan : Plan RatedTimings
+plan = record {
+  found = of-findings;
+  handed = of-usize;
+  answer = of-enum RA.the-type RA′.the-laws RA′.the-plain tt;
+  findings = itself;
+  hand = count;
+  core = #rules·rated-findings;
+  reply = #rules·rated-reply;
+  need = 5;
+  small = tt;
+  finds = λ r f. f ≡ holding (ratedFindings r);
+  replies = λ len n a. ratedSaid a ≡ ratedReplied len n;
+  promises = λ r xs a zs. (ratedSaid a ≡ ratedOf r xs) × (zs ≡ listed 5 (ratedFindings r) xs);
+  keeps = keeps;
+}
+
+pub check-rated-profile-spec : {M : Type 1} → statement M
+unfolding code.routine
+check-rated-profile-spec 𝓤 H 𝓜 𝓖 𝓡 =
+    by-value 𝓤 H 𝓜 𝓖 𝓡 code.env #rules·check-rated-profile (of-struct RT.the-type RT′.the-laws RT′.the-plain) plan refl (code.unfolded 𝓤 H 𝓜 𝓡) code.calls-findings·fill
+    code.calls-rules·rated-findings (found.met 𝓤 H 𝓜 𝓖 𝓡) code.calls-rules·rated-reply (replied.met 𝓤 H 𝓜 𝓖 𝓡)

@@ -1,0 +1,95 @@
+-- How findings are gathered: three small numbers and three large ones for each place, in two flat arrays. Only private functions promise
+-- in these terms. Assumes nothing.
+use Prim.Native.Nat.{ℕ, zero, suc, _+_, _-_, _*_}
+use mathlib.Core.List.{List, [], _∷_, _++_}
+use lib.Dec.{eqb, ltb}
+use lib.ListN.{length, set, getD, replicate}
+use Rattle.reading.specs.Pick.{pick}
+use Rattle.findings.specs.declared.Severity.{Severity}
+use Rattle.findings.specs.declared.Severity.the-variants.{Error, Warning, Info}
+use Rattle.findings.specs.declared.Finding.{Finding}
+use Rattle.findings.specs.declared.Findings.{Findings}
+use Rattle.findings.specs.declared.Found.{Found}
+use Rattle.findings.specs.declared.Found.the-variants.{Nothing, One}
+use Rattle.findings.specs.Hold.{blankFinding}
+use Rattle.findings.specs.Lent.{keptOf}
+use Rattle.rules.specs.Table.{finding}
+
+pub record Lanes : Type 0 where
+  pub heads : List ℕ
+  pub numbers : List ℕ
+  pub count : ℕ
+
+abbrev pub lanes : List ℕ → List ℕ → ℕ → Lanes
+lanes h n c = record { heads = h; numbers = n; count = c }
+
+abbrev pub severityNumber : Severity → ℕ
+severityNumber Error = 0
+severityNumber Warning = 1
+severityNumber Info = 2
+
+abbrev pub severityOf : ℕ → Severity
+severityOf n = pick (eqb n 0) Error (pick (eqb n 1) Warning Info)
+
+-- a finding is three small numbers, which go into the one array, and three large ones, which go into the other
+pub record Three : Type 0 where
+  pub a : ℕ
+  pub b : ℕ
+  pub c : ℕ
+
+abbrev pub headOf : Finding → Three
+headOf f = record { a = f .code; b = severityNumber (f .severity); c = f .sub }
+
+abbrev pub numbersOf : Finding → Three
+numbersOf f = record { a = f .first; b = f .second; c = f .third }
+
+abbrev pub joined : (head numbers : Three) → Finding
+joined h n = finding (h .a) (severityOf (h .b)) (h .c) (n .a) (n .b) (n .c)
+
+-- three numbers stored from place 3 * n on, and read there
+abbrev pub stored : List ℕ → ℕ → Three → List ℕ
+stored l n t = set (set (set l (3 * n) (t .a)) (3 * n + 1) (t .b)) (3 * n + 2) (t .c)
+
+abbrev pub threeAt : List ℕ → ℕ → Three
+threeAt l n = record { a = getD l (3 * n) 0; b = getD l (3 * n + 1) 0; c = getD l (3 * n + 2) 0 }
+
+-- what one more answer makes of them; past the fifteenth place nothing is kept
+abbrev pub noted : Lanes → Found → Lanes
+noted l Nothing = l
+noted l (One f) =
+    pick (ltb (l .count) 15)
+    (lanes (stored (l .heads) (l .count) (headOf f)) (stored (l .numbers) (l .count) (numbersOf f)) (l .count + 1))
+    l
+
+unfoldable pub noteAll : Lanes → List Found → Lanes
+noteAll l [] = l
+noteAll l (x ∷ xs) = noteAll (noted l x) xs
+
+-- the finding in a place
+abbrev pub findingIn : List ℕ → List ℕ → ℕ → Finding
+findingIn h n i = joined (threeAt h i) (threeAt n i)
+
+-- the findings in the first k places
+abbrev pub firstFindings : List ℕ → List ℕ → ℕ → List Finding
+firstFindings h n zero = []
+firstFindings h n (suc k) = firstFindings h n k ++ (findingIn h n k ∷ [])
+
+-- as records: the places in use, none where they are more than fifteen, and then blanks
+abbrev pub recordsOf : Lanes → Findings
+recordsOf l =
+    record {
+      items = firstFindings (l .heads) (l .numbers) (keptOf (l .count)) ++ replicate (15 - keptOf (l .count)) blankFinding;
+      count = keptOf (l .count);
+    }
+
+-- three numbers of each finding, one after the other, and then zeros up to forty-five numbers
+abbrev pub flat : (Finding → Three) → List Finding → List ℕ
+flat t [] = []
+flat t (f ∷ l) = t f .a ∷ t f .b ∷ t f .c ∷ flat t l
+
+abbrev pub lane : (Finding → Three) → List Finding → List ℕ
+lane t l = flat t l ++ replicate (45 - 3 * length l) 0
+
+-- the arrays and the count that hold a list of at most fifteen
+unfoldable pub lanesHolding : List Finding → Lanes
+lanesHolding l = lanes (lane headOf l) (lane numbersOf l) (length l)

@@ -1,0 +1,7 @@
+pub mod Table
+pub mod Regions
+pub mod Rules
+pub mod Lint
+pub mod Lanes
+pub mod Word
+pub mod Bench

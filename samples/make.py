@@ -1,0 +1,43 @@
+#!/usr/bin/env python3
+"""Writes the two sample images beside this file. samples/README.md says what stands in them and why."""
+import pathlib
+
+HERE = pathlib.Path(__file__).resolve().parent
+
+
+def crc16(data):
+    crc = 0
+    for byte in data:
+        crc ^= byte << 8
+        for _ in range(8):
+            crc = (crc << 1 ^ 0x1021 if crc & 0x8000 else crc << 1) & 0xFFFF
+    return crc
+
+
+def sound():
+    image = bytearray(512)
+
+    def number(offset, value):
+        image[offset : offset + 2] = value.to_bytes(2, "little")
+
+    image[0:8] = bytes([0x30, 0x10, 0x12, 0x02, 0x04, 0x00, 0x20, 0x62])
+    image[234:236] = bytes([0x00, 0x22])
+    number(20, 416)  # tCKmin
+    number(22, 1010)  # tCKmax
+    mask = sum(1 << (cl - 20) // 2 for cl in (22, 28, 30, 32, 36, 40, 42))
+    image[24:29] = mask.to_bytes(5, "little")
+    for offset, time in ((30, 16640), (32, 16640), (34, 16640), (36, 32000), (38, 48640), (40, 30000)):
+        number(offset, time)  # tAA tRCD tRP tRAS tRC tWR
+    for offset, time in ((42, 295), (44, 160), (46, 130)):
+        number(offset, time)  # tRFC1 tRFC2 tRFCsb, in nanoseconds
+    pairs = ((5000, 8), (5000, 8), (20000, 32), (10000, 16), (13333, 32), (10000, 16), (2500, 4), (7500, 12))
+    for k, (time, clocks) in enumerate(pairs):  # tRRD_L tCCD_L tCCD_L_WR tCCD_L_WR2 tFAW tWTR_L tWTR_S tRTP
+        number(70 + 3 * k, time)
+        image[72 + 3 * k] = clocks
+    number(510, crc16(image[:510]))
+    return bytes(image)
+
+
+image = sound()
+(HERE / "ddr5-4800.bin").write_bytes(image)
+(HERE / "ddr5-4800-burst-twice.bin").write_bytes((image[:32] + image[16:32] + image[32:])[:512])
