@@ -1,0 +1,46 @@
+-- What linting finds can always be reported: at most fifteen findings, all of the table's, with flags of two bits. So want of room is the
+-- only refusal. Assumes nothing.
+use Prim.Native.Nat.{ℕ, _<_, _≤_}
+use mathlib.Core.Path.{_≡_, _∙_}
+use mathlib.Core.List.{List}
+use native.Mathlib.Omega.{arith}
+use borrow.Author.Tests.{le-ltb}
+use lib.ListN.{length, take, getD}
+use Rattle.reading.specs.Said.{Said, gives, refuses}
+use Rattle.findings.specs.declared.Finding.{Finding}
+use Rattle.findings.specs.Hold.{holding}
+use Rattle.findings.proofs.Laws.{list-held}
+use Rattle.decoders.specs.Identity.{identityOf}
+use Rattle.decoders.specs.Timing.{timingsOf}
+use Rattle.rules.specs.Lint.{findingsOf}
+use Rattle.rules.proofs.Inside.{inside}
+use Rattle.rules.proofs.Never.{at-most-fifteen}
+use Rattle.report.specs.Write.{fitted, writeOf, foundOf, writtenOver, flagsFor, lintReportOf, lintReportAfter}
+use Rattle.report.proofs.Trip.{Reportable}
+use Rattle.report.proofs.Loaded.{found-held}
+
+pub fits : (flags : ℕ) (l : List Finding) (room : ℕ) → Reportable flags l → writeOf flags l room ≡ fitted (length l) room
+unfolding writeOf
+fits flags l room ok = rw (le-ltb 15 (length l) (ok .few), le-ltb 3 flags (ok .flagged), ok .listed)
+
+pub flags-few : {A B : Type 0} (a : Said A) (b : Said B) → flagsFor a b ≤ 3
+flags-few (gives a) (gives b) = omega arith
+flags-few (gives a) (refuses t) = omega arith
+flags-few (refuses t) (gives b) = omega arith
+flags-few (refuses t) (refuses u) = omega arith
+
+module _ (s : List ℕ) (bytes : (i : ℕ) → getD s i 0 < 256) where
+  pub lint-fits : (flags room : ℕ) → flags ≤ 3 → foundOf flags (holding (findingsOf s)) room ≡ fitted (length (findingsOf s)) room
+  lint-fits flags room h =
+      found-held flags (findingsOf s) room (at-most-fifteen s)
+      ∙ fits flags (findingsOf s) room (record { flagged = h; few = at-most-fifteen s; listed = inside s bytes })
+
+  -- the two promises of a call that lints and writes
+  pub lint-answer : (room : ℕ) → foundOf (flagsFor (identityOf s) (timingsOf s)) (holding (findingsOf s)) room ≡ lintReportOf s room
+  unfolding lintReportOf
+  lint-answer room = lint-fits (flagsFor (identityOf s) (timingsOf s)) room (flags-few (identityOf s) (timingsOf s))
+
+  pub lint-after : (out : List ℕ)
+      → writtenOver (foundOf (flagsFor (identityOf s) (timingsOf s)) (holding (findingsOf s)) (length out)) (flagsFor (identityOf s) (timingsOf s)) (take (holding (findingsOf s) .count) (holding (findingsOf s) .items)) out ≡ lintReportAfter s out
+  unfolding lintReportAfter
+  lint-after out = rw (lint-answer (length out), list-held (findingsOf s))

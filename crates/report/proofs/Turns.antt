@@ -1,0 +1,87 @@
+-- What one turn of each loop makes of what the turns before it made, and what the last leaves. Assumes nothing.
+use Prim.Native.Nat.{ℕ, zero, suc, _+_, _-_, _*_, _<_, _≤_}
+use mathlib.Core.Path.{_≡_, refl, ap, sym, _∙_}
+use mathlib.Core.List.{List, [], _∷_, _++_, append-assoc}
+use mathlib.Core.Bool.{Bool}
+use native.Mathlib.Omega.{arith}
+use native.Mathlib.Nat.{not-suc-le-zero, le-of-suc-le-suc}
+use native.Mathlib.Numerals.{add-one}
+use lib.ListN.{length, take, drop, getD, set, length-append, length-drop, drop-of-length-le}
+use lib.Seq.{drop-cons, drop-drop, take-suc, take-all, take-append-seam, getD-take, length-take-le, drop-append-add}
+use Rattle.reading.specs.Pick.{and}
+use Rattle.reading.specs.Lent.{laid}
+use Rattle.findings.specs.declared.Severity.the-variants.{Error}
+use Rattle.findings.specs.declared.Finding.{Finding}
+use Rattle.findings.specs.declared.Findings.{Findings}
+use Rattle.findings.specs.Hold.{blankItems, holding}
+use Rattle.findings.specs.Lent.{over}
+use Rattle.findings.proofs.Laws.{kept-few, over-step, load-held}
+use Rattle.rules.specs.Table.{finding, inTable, allIn}
+use Rattle.report.specs.Form.{findingBytes, bodyOf, headOf, reportOf, findingIn, findingsIn}
+use Rattle.report.proofs.Form.{length-body}
+
+-- what an array is taken to hold past its end, where no turn reads
+abbrev unread : Finding
+unread = finding 0 Error 0 0 0 0
+
+-- ---- all_in: what is left of the first n answers as they do
+module _ (n : ℕ) (xs : List Finding) (h : n ≤ length xs) where
+  pub next-in : (i : ℕ) → i < n → {t : Bool} → inTable (getD xs i unread) ≡ t → allIn (drop i (take n xs)) ≡ and t (allIn (drop (i + 1) (take n xs)))
+  next-in i k e =
+      let l = length-take-le n xs h in
+      rw (add-one, drop-cons (take n xs) i unread (omega arith), getD-take n xs i unread k, e)
+
+  pub none-left : (i : ℕ) → n ≤ i → drop i (take n xs) ≡ []
+  none-left i k =
+      let l : length (take n xs) ≤ i = omega (arith, length-take-le n xs h) in
+      drop-of-length-le (take n xs) l
+
+-- ---- gather: the findings of the first i places stand over blank places
+pub length-findings : (n : ℕ) (t : List ℕ) → length (findingsIn t n) ≡ n
+length-findings zero t = refl
+length-findings (suc n) t = ap suc (length-findings n (drop 14 t))
+
+findings-at : (n : ℕ) (t : List ℕ) (i : ℕ) → i < n → getD (findingsIn t n) i unread ≡ findingIn (drop (14 * i) t)
+findings-at zero t i h = absurd (not-suc-le-zero h)
+findings-at (suc n) t zero h = refl
+findings-at (suc n) t (suc i) h =
+    let e : 14 * suc i ≡ 14 + 14 * i = omega arith in
+    findings-at n (drop 14 t) i (le-of-suc-le-suc h) ∙ rw (drop-drop, e)
+
+module _ (s : List ℕ) (n : ℕ) (few : n ≤ 15) where
+  pub next-kept : (i : ℕ) → i < n → {f : Finding} → f ≡ findingIn (take (length s - (5 + 14 * i)) (drop (5 + 14 * i) s))
+      → set (over i (findingsIn (drop 5 s) n) blankItems) i f ≡ over (i + 1) (findingsIn (drop 5 s) n) blankItems
+  next-kept i h {f} e =
+      let l = findingsIn (drop 5 s) n in
+      let p : f ≡ getD l i unread = e ∙ rw (take-all (length s - (5 + 14 * i)) (drop (5 + 14 * i) s) (omega (arith, length-drop (5 + 14 * i) s)), findings-at n (drop 5 s) i h, drop-drop) in
+      rw p (over-step unread l blankItems i (omega (arith, length-findings n (drop 5 s))) (omega arith))
+
+-- places that hold a list of at most fifteen
+pub all-kept : (l : List Finding) (n : ℕ) → length l ≡ n → n ≤ 15 → _≡_ {A = Findings} (record { items = over n l blankItems; count = n }) (holding l)
+all-kept l n e h = rw (← e) (rw (kept-few (length l) (omega arith)) at (load-held l (omega arith)))
+
+-- ---- put_all: what is put right behind the part that is laid makes it longer
+laid-on : (p b d : List ℕ) (at : ℕ) → length p ≡ at → take at (laid p d) ++ b ++ drop (at + length b) (laid p d) ≡ laid (p ++ b) d
+laid-on p b d at e = rw (← e) (simp (take-append-seam, drop-append-add, drop-drop, length-append, append-assoc))
+
+pub laid-again : (p q d : List ℕ) → laid (p ++ q) (laid p d) ≡ laid (p ++ q) d
+laid-again p q d = simp (length-append, drop-append-add, drop-drop)
+
+body-last : (l : List Finding) (f : Finding) → bodyOf (l ++ (f ∷ [])) ≡ bodyOf l ++ findingBytes f
+body-last [] f = refl
+body-last (g ∷ l) f = rw (body-last l f)
+
+module _ (flags n : ℕ) (xs : List Finding) (h : n ≤ length xs) where
+  pub next-put : (d : List ℕ) (i : ℕ) → i < n → {b o out : List ℕ} → b ≡ findingBytes (getD xs i unread) → o ≡ laid (headOf flags n ++ bodyOf (take i (take n xs))) d
+      → out ≡ take (5 + 14 * i) o ++ b ++ drop (5 + 14 * i + length b) o → out ≡ laid (headOf flags n ++ bodyOf (take (i + 1) (take n xs))) d
+  next-put d i k p q r =
+      let l = take n xs in
+      let m = length-take-le n xs h in
+      let e : bodyOf (take (i + 1) l) ≡ bodyOf (take i l) ++ findingBytes (getD xs i unread) = rw (add-one, take-suc l i unread (omega arith), getD-take n xs i unread k) (body-last (take i l) (getD xs i unread)) in
+      let g = laid-on (headOf flags n ++ bodyOf (take i l)) (findingBytes (getD xs i unread)) d (5 + 14 * i) (omega (arith, length-body (take i l), length-take-le i l (omega arith))) in
+      (rw (p, q) at r) ∙ g ∙ ap (λ (t : List ℕ). laid (headOf flags n ++ t) d) (sym e)
+
+  pub all-put : (d : List ℕ) (i : ℕ) → n ≤ i → {o out : List ℕ} → o ≡ laid (headOf flags n) d → out ≡ laid (headOf flags n ++ bodyOf (take i (take n xs))) o → out ≡ laid (reportOf flags (take n xs)) d
+  all-put d i k p q =
+      let m = length-take-le n xs h in
+      q ∙ rw (p, take-all i (take n xs) (omega arith), m) (laid-again (headOf flags n) (bodyOf (take n xs)) d)

@@ -1,0 +1,4 @@
+pub mod Form
+pub mod Table
+pub mod Write
+pub mod Read

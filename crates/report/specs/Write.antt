@@ -1,0 +1,64 @@
+-- What writing a report answers, and what stands in the buffer afterwards. Assumes nothing.
+use Prim.Native.Nat.{ℕ, _+_, _*_}
+use mathlib.Core.List.{List}
+use lib.Dec.{ltb}
+use lib.ListN.{length, take}
+use Rattle.reading.specs.Pick.{pick}
+use Rattle.reading.specs.Said.{Said, gives, refuses, refused, told}
+use Rattle.reading.specs.Lent.{laid}
+use Rattle.findings.specs.declared.Finding.{Finding}
+use Rattle.findings.specs.declared.Findings.{Findings}
+use Rattle.decoders.specs.declared.identity.IdentityAnswer.{IdentityAnswer}
+use Rattle.decoders.specs.declared.timing.TimingsAnswer.{TimingsAnswer}
+use Rattle.decoders.specs.Answers.{identitySaid, timingsSaid}
+use Rattle.decoders.specs.Identity.{identityOf}
+use Rattle.decoders.specs.Timing.{timingsOf}
+use Rattle.rules.specs.Table.{allIn}
+use Rattle.rules.specs.Lint.{findingsOf}
+use Rattle.report.specs.Form.{restOf, reportOf}
+use Rattle.report.specs.declared.WriteAnswer.{WriteAnswer}
+use Rattle.report.specs.declared.WriteAnswer.the-variants as write
+
+abbrev pub writeSaid : WriteAnswer → Said ℕ
+writeSaid (write.Bytes n) = gives n
+writeSaid (write.Refused why) = refuses (told why)
+
+-- n findings into so much room
+abbrev pub fitted : (n room : ℕ) → Said ℕ
+fitted n room = pick (ltb room (restOf n + 2)) (refused 8 0 0) (gives (restOf n + 2))
+
+-- 12 for a list over fifteen, flags over 3 or a finding outside the table; then 8
+unfoldable pub writeOf : (flags : ℕ) → List Finding → (room : ℕ) → Said ℕ
+writeOf flags l room =
+    pick (ltb 15 (length l)) (refused 12 0 0)
+    (pick (ltb 3 flags) (refused 12 0 0)
+    (pick (allIn l) (fitted (length l) room) (refused 12 0 0)))
+
+-- findings by value: a count over fifteen is a list over fifteen
+unfoldable pub foundOf : (flags : ℕ) → Findings → (room : ℕ) → Said ℕ
+foundOf flags f room =
+    pick (ltb 15 (f .count)) (refused 12 0 0) (writeOf flags (take (f .count) (f .items)) room)
+
+-- the buffer afterwards: the report at its front, or as it was
+unfoldable pub writtenOver : Said ℕ → (flags : ℕ) → List Finding → List ℕ → List ℕ
+writtenOver (gives n) flags l out = laid (reportOf flags l) out
+writtenOver (refuses t) flags l out = out
+
+-- bit 0: identity decoded; bit 1: timings decoded
+abbrev pub decoded : {A : Type 0} → Said A → ℕ
+decoded (gives a) = 1
+decoded (refuses t) = 0
+
+abbrev pub flagsFor : {A B : Type 0} → Said A → Said B → ℕ
+flagsFor identity timings = decoded identity + 2 * decoded timings
+
+abbrev pub flagsOf : IdentityAnswer → TimingsAnswer → ℕ
+flagsOf identity timings = flagsFor (identitySaid identity) (timingsSaid timings)
+
+-- an image's report: want of room is the only refusal
+unfoldable pub lintReportOf : List ℕ → (room : ℕ) → Said ℕ
+lintReportOf s room = fitted (length (findingsOf s)) room
+
+unfoldable pub lintReportAfter : List ℕ → List ℕ → List ℕ
+lintReportAfter s out =
+    writtenOver (lintReportOf s (length out)) (flagsFor (identityOf s) (timingsOf s)) (findingsOf s) out

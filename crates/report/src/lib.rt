@@ -1,0 +1,403 @@
+// The report form, version 1: findings written into a lent buffer, and read back.
+ghost use mathlib.Core.Path.{_≡_};
+ghost use Prim.Native.Nat.{_+_, _*_, _<_, _≤_};
+ghost use mathlib.Core.List.{_++_};
+ghost use lib.ListN.{length, drop, take};
+ghost use Rattle.reading.specs.Lent.{laid};
+ghost use Rattle.rules.specs.Table.{rowOf, inTable, allIn, same};
+ghost use Rattle.report.specs.Table.{Limited, inLimits};
+ghost use Rattle.report.specs.Form.{findingBytes, reportOf, restOf, numberIn, findingIn, findingsIn};
+ghost use Rattle.report.specs.Write.{writeSaid, writeOf, writtenOver, foundOf, lintReportOf, lintReportAfter, flagsOf};
+ghost use Rattle.report.specs.Read.{readSaid, readingSaid, readingOf, readOf, readAfter, readReplied, readRefused, gatheredOf, acceptedOf, Headed};
+use decoders::identity::IdentityAnswer;
+use decoders::timing::TimingsAnswer;
+use findings::Finding;
+use findings::Findings;
+use findings::Severity;
+use reading::Refusal;
+
+// The most that 32 bits hold: a number of any size.
+const ANY: u32 = 4294967295;
+
+// How many bytes of the buffer the report takes, or why it was not written.
+pub enum WriteAnswer {
+    Bytes(usize),
+    Refused(Refusal),
+}
+
+// A report's flags and how many findings it has, or why it is none.
+pub enum ReadAnswer {
+    Report { flags: u8, count: usize },
+    Refused(Refusal),
+}
+
+// What reading answers by value; without a report there are no findings.
+pub struct Reading {
+    pub answer: ReadAnswer,
+    pub findings: Findings,
+}
+
+// Writes the whole of a lent list, with flags, as a report.
+pub fn write(flags: u8, list: &[Finding], out: &mut [u8]) -> WriteAnswer
+    ensures { λ r. ⌜ (writeSaid r ≡ writeOf flags (now (list .entry)) (length (now (out .entry)))) × (now (out .exit) ≡ writtenOver (writeOf flags (now (list .entry)) (length (now (out .entry)))) flags (now (list .entry)) (now (out .entry))) ⌝ }
+{
+    write_findings(flags, findings::load(list), out)
+}
+
+// The same of findings by value: refused 12 before 8, and a refusal writes nothing.
+pub fn write_findings(flags: u8, found: Findings, out: &mut [u8]) -> WriteAnswer
+    ensures answer { λ r. ⌜ writeSaid r ≡ foundOf flags found (length (now (out .entry))) ⌝ }
+    ensures later { λ r. ⌜ now (out .exit) ≡ writtenOver (foundOf flags found (length (now (out .entry)))) flags (take (found .count) (found .items)) (now (out .entry)) ⌝ }
+{
+    let n = found.count;
+    if 15 < n {
+        return WriteAnswer::Refused(Refusal::NotReportable);
+    }
+    if 3 < flags {
+        return WriteAnswer::Refused(Refusal::NotReportable);
+    }
+    if all_in(found) {
+        let size = 3 + 14 * n + 2;
+        if out.len() < size {
+            return WriteAnswer::Refused(Refusal::BufferTooSmall);
+        }
+        put_all(flags, found, out);
+        return WriteAnswer::Bytes(size);
+    }
+    WriteAnswer::Refused(Refusal::NotReportable)
+}
+
+// Lints an image and writes its report: linting never meets refusal 12, so want of room is the only refusal.
+pub fn lint_report(image: &[u8], out: &mut [u8]) -> WriteAnswer
+    ensures answer { λ r. ⌜ writeSaid r ≡ lintReportOf (now (image .entry)) (length (now (out .entry))) ⌝ }
+    ensures later { λ r. ⌜ now (out .exit) ≡ lintReportAfter (now (image .entry)) (now (out .entry)) ⌝ }
+{
+    let linted = rules::lint_image(image);
+    let identity = linted.identity;
+    let timings = linted.timings;
+    let found = linted.findings;
+    write_findings(flags_of(identity, timings), found, out)
+}
+
+// Bit 0: identity decoded. Bit 1: timings decoded.
+pub fn flags_of(identity: IdentityAnswer, timings: TimingsAnswer) -> u8
+    ensures { λ r. ⌜ r ≡ flagsOf identity «timings» ⌝ }
+{
+    match identity {
+        IdentityAnswer::Decoded(_) => match timings {
+            TimingsAnswer::Decoded(_) => 3,
+            TimingsAnswer::Refused(_) => 1,
+        },
+        IdentityAnswer::Refused(_) => match timings {
+            TimingsAnswer::Decoded(_) => 2,
+            TimingsAnswer::Refused(_) => 0,
+        },
+    }
+}
+
+// Reads a report into a lent list of at least fifteen places. Bytes after the report are not looked at.
+pub fn read(bytes: &[u8], list: &mut [Finding]) -> ReadAnswer
+    ensures { λ r. ⌜ (readSaid r ≡ readOf (now (bytes .entry)) (length (now (list .entry)))) × (now (list .exit) ≡ readAfter (now (bytes .entry)) (now (list .entry))) ⌝ }
+{
+    let len = list.len();
+    let reading = read_findings(bytes);
+    findings::fill(list, 15, reading.findings);
+    read_reply(len, reading.answer)
+}
+
+// What `read` answers of a list of so many places.
+pub fn read_reply(len: usize, answer: ReadAnswer) -> ReadAnswer
+    ensures { λ r. ⌜ readSaid r ≡ readReplied len (readSaid answer) ⌝ }
+{
+    if len < 15 {
+        ReadAnswer::Refused(Refusal::ListTooShort)
+    } else {
+        answer
+    }
+}
+
+// The same by value.
+pub fn read_findings(bytes: &[u8]) -> Reading
+    ensures { λ r. ⌜ readingSaid r ≡ readingOf (now (bytes .entry)) ⌝ }
+{
+    if bytes.len() < 2 {
+        return refused(Refusal::ReportCut);
+    }
+    let rest = wide(bytes[0]) * 256 + wide(bytes[1]);
+    if bytes.len() < 2 + rest {
+        return refused(Refusal::ReportCut);
+    }
+    if rest == 0 {
+        return refused(Refusal::ReportMalformed);
+    }
+    if bytes[2] != 1 {
+        return refused(Refusal::ReportVersion);
+    }
+    read_body(bytes, rest)
+}
+
+// A report of version 1 from its flags on, where `rest` bytes follow the first two.
+fn read_body(bytes: &[u8], rest: usize) -> Reading
+    requires { ⌜ Headed (now bytes) rest ⌝ }
+    ensures { λ r. ⌜ readingSaid r ≡ readingOf (now (bytes .entry)) ⌝ }
+{
+    if rest < 3 {
+        return refused(Refusal::ReportMalformed);
+    }
+    let flags = bytes[3];
+    let count = wide(bytes[4]);
+    if 3 < flags {
+        return refused(Refusal::ReportMalformed);
+    }
+    if 15 < count {
+        return refused(Refusal::ReportMalformed);
+    }
+    if rest != 3 + 14 * count {
+        return refused(Refusal::ReportMalformed);
+    }
+    accept(flags, gather(bytes, count))
+}
+
+// The findings of a report's body, and whether each is one of the table's.
+struct Gathered {
+    ok: bool,
+    findings: Findings,
+}
+
+// A refusal, with no findings.
+fn refused(why: Refusal) -> Reading
+    ensures { λ r. ⌜ readingSaid r ≡ readRefused why ⌝ }
+{
+    let items = findings::blanks();
+    let found = Findings { items, count: 0 };
+    Reading {
+        answer: ReadAnswer::Refused(why),
+        findings: found,
+    }
+}
+
+// A body that was gathered, as an answer.
+fn accept(flags: u8, gathered: Gathered) -> Reading
+    ensures { λ r. ⌜ readingSaid r ≡ acceptedOf flags gathered ⌝ }
+{
+    if gathered.ok {
+        let found = gathered.findings;
+        return Reading {
+            answer: ReadAnswer::Report {
+                flags,
+                count: found.count,
+            },
+            findings: found,
+        };
+    }
+    refused(Refusal::ReportMalformed)
+}
+
+// The findings in the places from byte 5 on, fourteen bytes each.
+fn gather(bytes: &[u8], count: usize) -> Gathered
+    requires { ⌜ (count ≤ 15) × (5 + 14 * count ≤ length (now bytes)) ⌝ }
+    ensures { λ r. ⌜ r ≡ gatheredOf (findingsIn (drop 5 (now (bytes .entry))) count) ⌝ }
+{
+    let mut items = findings::blanks();
+    let mut i: usize = 0;
+    while i < count {
+        let at = 5 + 14 * i;
+        items[i] = finding(&bytes[at..]);
+        i += 1;
+    }
+    let found = Findings { items, count };
+    Gathered {
+        ok: all_in(found),
+        findings: found,
+    }
+}
+
+// The finding that the first fourteen bytes are.
+fn finding(t: &[u8]) -> Finding
+    requires { ⌜ 14 ≤ length (now t) ⌝ }
+    ensures { λ r. ⌜ r ≡ findingIn (now (t .entry)) ⌝ }
+{
+    let code = t[0];
+    let row = limits_of(code);
+    let severity = row.0;
+    Finding {
+        code,
+        severity,
+        sub: t[1],
+        first: number(t, 2),
+        second: number(t, 6),
+        third: number(t, 10),
+    }
+}
+
+// The number that the four bytes from k on are, highest first.
+fn number(t: &[u8], k: usize) -> u32
+    requires { ⌜ k + 4 ≤ length (now t) ⌝ }
+    ensures { λ r. ⌜ r ≡ numberIn (now (t .entry)) k ⌝ }
+{
+    let a = wide_number(t[k]);
+    let b = wide_number(t[k + 1]);
+    let c = wide_number(t[k + 2]);
+    let d = wide_number(t[k + 3]);
+    a * 16777216 + b * 65536 + c * 256 + d
+}
+
+fn wide_number(x: u8) -> u32
+    ensures { λ r. ⌜ (r ≡ x) × (r < 256) ⌝ }
+{
+    x as u32
+}
+
+fn wide(x: u8) -> usize
+    ensures { λ r. ⌜ (r ≡ x) × (r < 256) ⌝ }
+{
+    x as usize
+}
+
+// A row of the report table: the severity, the lowest and the highest sub, and the most that each number may be.
+struct Limits(Severity, u8, u8, u32, u32, u32);
+
+// The row of a code. No sub fits any other code.
+fn limits_of(code: u8) -> Limits
+    ensures { λ r. ⌜ Limited (rowOf code) r ⌝ }
+{
+    match code {
+        1 => Limits(Severity::Error, 0, 0, 65535, 65535, 0),
+        2 => Limits(Severity::Error, 0, 0, ANY, ANY, ANY),
+        3 => Limits(Severity::Error, 1, 2, ANY, ANY, 0),
+        4 => Limits(Severity::Warning, 0, 0, ANY, ANY, 0),
+        5 => Limits(Severity::Error, 0, 0, 65535, 0, 0),
+        6 => Limits(Severity::Warning, 1, 2, ANY, ANY, 0),
+        7 => Limits(Severity::Info, 0, 0, ANY, 0, 0),
+        8 => Limits(Severity::Warning, 0, 0, 65535, 255, 0),
+        9 => Limits(Severity::Error, 1, 3, 255, 0, 0),
+        _ => Limits(Severity::Info, 1, 0, 0, 0, 0),
+    }
+}
+
+// Whether a finding is one of the report table's.
+pub fn in_table(f: Finding) -> bool
+    ensures { λ r. ⌜ r ≡ inTable f ⌝ }
+{
+    let row = limits_of(f.code);
+    let wanted = row.0;
+    let severity = f.severity;
+    if same_severity(wanted, severity) {
+        return in_limits(row, f);
+    }
+    false
+}
+
+// Whether sub and numbers are within a row's limits.
+fn in_limits(row: Limits, f: Finding) -> bool
+    ensures { λ r. ⌜ r ≡ inLimits row f ⌝ }
+{
+    let Limits(_, low, high, first, second, third) = row;
+    let sub = f.sub;
+    if sub < low {
+        return false;
+    }
+    if high < sub {
+        return false;
+    }
+    if first < f.first {
+        return false;
+    }
+    if second < f.second {
+        return false;
+    }
+    f.third <= third
+}
+
+fn same_severity(a: Severity, b: Severity) -> bool
+    ensures { λ r. ⌜ r ≡ same a b ⌝ }
+{
+    match a {
+        Severity::Error => match b {
+            Severity::Error => true,
+            Severity::Warning => false,
+            Severity::Info => false,
+        },
+        Severity::Warning => match b {
+            Severity::Error => false,
+            Severity::Warning => true,
+            Severity::Info => false,
+        },
+        Severity::Info => match b {
+            Severity::Error => false,
+            Severity::Warning => false,
+            Severity::Info => true,
+        },
+    }
+}
+
+// Whether all of them are.
+fn all_in(found: Findings) -> bool
+    requires { ⌜ found .count ≤ 15 ⌝ }
+    ensures { λ r. ⌜ r ≡ allIn (take (found .count) (found .items)) ⌝ }
+{
+    let n = found.count;
+    let mut i: usize = 0;
+    while i < n {
+        if in_table(found.items[i]) {
+            i += 1;
+        } else {
+            return false;
+        }
+    }
+    true
+}
+
+// The report over the front of a buffer that has room for it.
+fn put_all(flags: u8, found: Findings, out: &mut [u8])
+    requires { ⌜ (found .count ≤ 15) × (restOf (found .count) + 2 ≤ length (now out)) ⌝ }
+    ensures { λ _. ⌜ now (out .exit) ≡ laid (reportOf flags (take (found .count) (found .items))) (now (out .entry)) ⌝ }
+{
+    let n = found.count;
+    let rest = 3 + 14 * n;
+    let head = [(rest / 256) as u8, (rest % 256) as u8, 1, flags, n as u8];
+    copy_in(&head, out, 0);
+    let mut i: usize = 0;
+    while i < n {
+        let b = bytes_of(found.items[i]);
+        copy_in(&b, out, 5 + 14 * i);
+        i += 1;
+    }
+}
+
+// Copies src into dst from a place on.
+fn copy_in(src: &[u8], dst: &mut [u8], at: usize)
+    requires { ⌜ at + length (now src) ≤ length (now dst) ⌝ }
+    ensures { λ _. ⌜ now (dst .exit) ≡ take at (now (dst .entry)) ++ now (src .entry) ++ drop (at + length (now (src .entry))) (now (dst .entry)) ⌝ }
+{
+    let mut j: usize = 0;
+    while j < src.len() {
+        dst[at + j] = src[j];
+        j += 1;
+    }
+}
+
+// The fourteen bytes of a finding.
+fn bytes_of(f: Finding) -> [u8; 14]
+    ensures { λ r. ⌜ r ≡ findingBytes f ⌝ }
+{
+    let a = f.first;
+    let b = f.second;
+    let c = f.third;
+    [
+        f.code,
+        f.sub,
+        (a / 16777216) as u8,
+        (a / 65536 % 256) as u8,
+        (a / 256 % 256) as u8,
+        (a % 256) as u8,
+        (b / 16777216) as u8,
+        (b / 65536 % 256) as u8,
+        (b / 256 % 256) as u8,
+        (b % 256) as u8,
+        (c / 16777216) as u8,
+        (c / 65536 % 256) as u8,
+        (c / 256 % 256) as u8,
+        (c % 256) as u8,
+    ]
+}

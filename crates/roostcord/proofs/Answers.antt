@@ -1,0 +1,54 @@
+-- What the tests that led to an end of an export say of its answer and of what was lent: one law for each end, over any list of numbers
+-- and any question to a state. Assumes nothing.
+use Prim.Native.Nat.{ℕ, _<_, _≤_}
+use mathlib.Core.Path.{_≡_, refl, sym, ap, _∙_}
+use mathlib.Core.List.{List}
+use lib.IntN.{ℤ, pos}
+use lib.ListN.{length}
+use borrow.Author.Tests.{lt-ltb, le-ltb}
+use Rattle.reading.specs.Pick.{pick}
+use Rattle.reading.specs.Said.{Told, Said, gives, refuses, refused}
+use Rattle.reading.specs.Lent.{laid}
+use Rattle.roostcord.specs.Word.{wordOf}
+use Rattle.roostcord.specs.Numbers.{listedIn, listAfter}
+use Rattle.roostcord.specs.State.{short, asked, arrivedIn}
+
+-- a decoder's answer r that says x, and the case that a match found in it
+pub found : {A E : Type 0} (say : E → Said A) {r e : E} {x : Said A} → say r ≡ x → r ≡ e → x ≡ say e
+found say p q = sym p ∙ ap say q
+
+-- a list of numbers in a lent list
+module _ (need : ℕ) (numbers : Said (List ℕ)) (out : List ℕ) where
+  abbrev Listed : ℤ → List ℕ → Type 0
+  Listed z later = (z ≡ wordOf (listedIn need numbers (length out))) × (later ≡ listAfter need numbers out)
+
+  pub no-room : length out < need → {z : ℤ} → z ≡ wordOf (refused 4 0 0) → Listed z out
+  unfolding listedIn listAfter
+  no-room h e = rw (lt-ltb (length out) need h) (e, refl)
+
+  pub not-listed : need ≤ length out → {t : Told} → numbers ≡ refuses t → {z : ℤ} → z ≡ wordOf (refuses t) → Listed z out
+  unfolding listedIn listAfter
+  not-listed h n e = rw (le-ltb (length out) need h, n) (e, refl)
+
+  pub listed : need ≤ length out → {l : List ℕ} → numbers ≡ gives l → {z : ℤ} {later : List ℕ} → z ≡ pos (length l) → later ≡ laid l out → Listed z later
+  unfolding listedIn listAfter
+  listed h n e f = rw (le-ltb (length out) need h, n) (e, f)
+
+-- a question to an image: its answer, and what it leaves of what was lent
+pub record Question : Type 0 where
+  pub answer : List ℕ → Said ℕ
+  pub after : List ℕ → List ℕ
+
+abbrev pub listing : (need : ℕ) → (List ℕ → Said (List ℕ)) → List ℕ → Question
+listing need numbers out = record { answer = λ s. listedIn need (numbers s) (length out); after = λ s. listAfter need (numbers s) out }
+
+-- put to a state, it is answered for what has arrived
+module _ (q : Question) (s lent : List ℕ) where
+  abbrev Asked : ℤ → List ℕ → Type 0
+  Asked z later = (z ≡ wordOf (asked s (q .answer (arrivedIn s)))) × (later ≡ pick (short s) lent (q .after (arrivedIn s)))
+
+  pub no-state : length s < 512 → {z : ℤ} → z ≡ wordOf (refused 4 0 0) → Asked z lent
+  no-state h e = rw (lt-ltb (length s) 512 h) (e, refl)
+
+  pub of-state : 512 ≤ length s → {a : List ℕ} → a ≡ arrivedIn s → {z : ℤ} {later : List ℕ} → z ≡ wordOf (q .answer a) → later ≡ q .after a → Asked z later
+  of-state h p e f = rw (le-ltb (length s) 512 h, ← p) (e, f)

@@ -1,0 +1,6 @@
+pub mod Words
+pub mod Answers
+pub mod Stores
+pub mod Feeding
+pub mod Tied
+pub mod Once

@@ -1,0 +1,58 @@
+-- `roostcord::roostcord_lint` meets its contract: what `lint_report` answers, as a word; a report is at most 215 bytes, so its count fits.
+-- Assumes nothing.
+use Prim.Native.Nat.{ℕ, _+_, _<_, _≤_}
+use mathlib.Core.Path.{_≡_, ap, _∙_, sym}
+use mathlib.Core.List.{List}
+use mathlib.Core.Bool.{Bool, true, false}
+use native.Mathlib.Omega.{arith}
+use lib.Dec.{ltb}
+use lib.ListN.{length}
+use borrow.Author.Needs.{needs}
+use Rattle.reading.specs.Pick.{pick}
+use Rattle.reading.specs.Said.{Said, gives, refused}
+use Rattle.rules.specs.Lint.{findingsOf}
+use Rattle.rules.proofs.Never.{at-most-fifteen}
+use Rattle.report.specs.Form.{restOf}
+use Rattle.report.specs.Write.{writeSaid, lintReportOf}
+use Rattle.roostcord.specs.Word.{wordOf}
+use Rattle.roostcord.proofs.Words.{handed}
+use Rattle.roostcord.proofs.Answers.{found}
+use Rattle.roostcord.proofs.roostcord_lint.Statement.{statement}
+use Rattle.roostcord.proofs.roostcord_lint.Tie as tie
+
+-- a size that is given is the report's
+size : (t : Bool) (m n : ℕ) → gives n ≡ pick t (refused 8 0 0) (gives m) → n ≡ m
+size true m n e = cc
+size false m n e = cc
+
+small : (s : List ℕ) (room n : ℕ) → lintReportOf s room ≡ gives n → n < 2147483648
+unfolding lintReportOf
+small s room n e =
+    let k = length (findingsOf s) in
+    let z : n ≡ restOf k + 2 = size (ltb room (restOf k + 2)) (restOf k + 2) n (sym e) in
+    omega (arith, at-most-fifteen s)
+
+pub roostcord-lint-spec : {M : Type 1} → statement M
+roostcord-lint-spec =
+    tie.close
+    (tie.spec
+    (λ c κs. search needs)
+    (λ c. search needs)
+    (λ c κs.
+    let b = c .before .before .before .before .before in
+    let a = b .before .before .before .before .args in
+    small (a .image .now) (length (a .report .now)) (c .before .n .given .0 .0) (found writeSaid (b .lint-report .ensures .0) (c .before .n .given .1)))
+    (λ c. search needs)
+    (λ c κs. search needs)
+    (λ c. search needs)
+    (λ c.
+    let m = c .before .before in
+    let b = m .before .before .before .before in
+    let e = found writeSaid (b .lint-report .ensures .0) (m .n .given .1) in
+    (handed (c .count-word .ok) (c .count-word .ensures) ∙ sym (ap wordOf e), b .lint-report .ensures .1))
+    (λ c. search needs)
+    (λ c.
+    let m = c .before .before in
+    let b = m .before .before .before .before in
+    let e = found writeSaid (b .lint-report .ensures .0) (m .why .given .1) in
+    (handed (c .refusal-word .ok) (c .refusal-word .ensures) ∙ sym (ap wordOf e), b .lint-report .ensures .1)))

@@ -1,0 +1,30 @@
+-- `roostcord::roostcord_pieces_lint` meets its contract: a question to a state is one for what has arrived. Assumes nothing.
+use borrow.Author.Needs.{needs}
+use Rattle.report.specs.Write.{lintReportOf, lintReportAfter}
+use mathlib.Core.List.{List}
+use Prim.Native.Nat.{ℕ}
+use lib.ListN.{length}
+use Rattle.roostcord.proofs.Words.{handed}
+use Rattle.roostcord.proofs.Answers.{Question, no-state, of-state}
+use Rattle.roostcord.proofs.roostcord_pieces_lint.Statement.{statement}
+use Rattle.roostcord.proofs.roostcord_pieces_lint.Tie as tie
+
+abbrev reporting : List ℕ → Question
+reporting out = record { answer = λ s. lintReportOf s (length out); after = λ s. lintReportAfter s out }
+
+pub roostcord-pieces-lint-spec : {M : Type 1} → statement M
+roostcord-pieces-lint-spec =
+    tie.close
+    (tie.spec
+    (λ c κs. search needs)
+    (λ c.
+    let a = c .before .before .before .before .args in
+    no-state (reporting (a .report .now)) (a .state .now) (a .report .now) (c .before .if1 .taken) (handed (c .refusal-word .ok) (c .refusal-word .ensures)))
+    (λ c κs. search needs)
+    (λ c κs. search needs)
+    (λ c. search needs)
+    (λ c.
+    let r = c .before .before .roostcord-lint in
+    let b = c .before .before .before .before in
+    let a = b .before .before .before .before .args in
+    of-state (reporting (a .report .now)) (a .state .now) (a .report .now) (b .before .if1 .left) (b .arrived .ensures) (handed (r .ok) (r .ensures .0)) (r .ensures .1)))

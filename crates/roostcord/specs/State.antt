@@ -1,0 +1,57 @@
+-- A pieces state in lent bytes: the count taken in two bytes, low byte first, and the 510 bytes that are kept. A count has twelve bits;
+-- no feeding leads past 2,048. Assumes nothing.
+use Prim.Native.Nat.{ℕ, _+_, _*_, _/_, _%_}
+use mathlib.Core.List.{List, [], _∷_, _++_}
+use mathlib.Core.Bool.{Bool}
+use lib.Dec.{ltb}
+use lib.ListN.{length, getD, take, drop}
+use Rattle.reading.specs.Pick.{pick}
+use Rattle.reading.specs.Said.{Said, gives, refused, onward}
+use Rattle.pieces.specs.declared.Pieces.{Pieces}
+use Rattle.pieces.specs.Fed.{fedBy, freshPieces, keptOf}
+use Rattle.pieces.specs.Run.{Call}
+
+-- fewer bytes than a state has
+abbrev pub short : List ℕ → Bool
+short s = ltb (length s) 512
+
+abbrev pub countIn : List ℕ → ℕ
+countIn s = getD s 0 0 + 256 * (getD s 1 0 % 16)
+
+-- the state that the bytes are, and the bytes that a state is
+abbrev pub stateIn : List ℕ → Pieces
+stateIn s = record { kept = take 510 (drop 2 s); taken = countIn s }
+
+abbrev pub bytesOf : Pieces → List ℕ
+bytesOf p = p .taken % 256 ∷ p .taken / 256 ∷ p .kept
+
+-- what has arrived, as far as it is kept
+abbrev pub arrivedIn : List ℕ → List ℕ
+arrivedIn s = keptOf (stateIn s)
+
+-- a question to a state: refusal 4 where there is none
+abbrev pub asked : {A : Type 0} → List ℕ → Said A → Said A
+asked s answer = pick (short s) (refused 4 0 0) answer
+
+unfoldable pub freshIn : List ℕ → Said ℕ
+freshIn s = asked s (gives 0)
+
+unfoldable pub freshAfter : List ℕ → List ℕ
+freshAfter s = pick (short s) s (bytesOf freshPieces ++ drop 512 s)
+
+unfoldable pub feedIn : List ℕ → (offset : ℕ) → List ℕ → Said ℕ
+feedIn s offset piece = asked s (fedBy (stateIn s) offset piece .answer)
+
+-- the bytes of the later state where the piece was taken, and else the bytes as they were
+unfoldable pub feedAfter : List ℕ → (offset : ℕ) → List ℕ → List ℕ
+feedAfter s offset piece =
+    pick (short s) s
+    (onward (λ t. s) (fedBy (stateIn s) offset piece .answer) (λ n. bytesOf (fedBy (stateIn s) offset piece .state) ++ drop 512 s))
+
+unfoldable pub takenIn : List ℕ → Said ℕ
+takenIn s = asked s (gives (countIn s))
+
+-- the bytes that a run of calls leads to
+unfoldable pub fedBytes : List ℕ → List Call → List ℕ
+fedBytes s [] = s
+fedBytes s (c ∷ cs) = fedBytes (feedAfter s (c .offset) (c .piece)) cs

@@ -1,0 +1,384 @@
+// The station's library: what C calls. An answer of 0 or more is a count; below zero it is minus a refusal word, and then nothing
+// that was lent has changed. station/roostcord.h is its header.
+ghost use mathlib.Core.Path.{_≡_};
+ghost use Prim.Native.Nat.{_<_, _≤_};
+ghost use lib.IntN.{pos, negℤ};
+ghost use lib.ListN.{length};
+ghost use Rattle.reading.specs.Pick.{pick};
+ghost use Rattle.reading.specs.Said.{told};
+ghost use Rattle.reading.specs.Lent.{laid};
+ghost use Rattle.report.specs.Write.{lintReportOf, lintReportAfter};
+ghost use Rattle.roostcord.specs.Word.{refusalWord, wordOf};
+ghost use Rattle.roostcord.specs.Numbers.{identityNumbers, timingNumbers, clockNumbers, identityList, timingsList, casNumbers, clocksList, listedIn, listAfter};
+ghost use Rattle.roostcord.specs.State.{countIn, arrivedIn, asked, short, freshIn, freshAfter, feedIn, feedAfter, takenIn};
+use decoders::clocks::ClockTable;
+use decoders::clocks::ClockTableAnswer;
+use decoders::identity::IdentityAndBase;
+use decoders::identity::IdentityAnswer;
+use decoders::timing::CasListAnswer;
+use decoders::timing::Timings;
+use decoders::timing::TimingsAnswer;
+use reading::Refusal;
+use report::WriteAnswer;
+
+// Lints an image and writes its report: how many bytes.
+#[no_mangle]
+pub extern "C" fn roostcord_lint(image: &[u8], report: &mut [u8]) -> i32
+    ensures answer { λ r. ⌜ r ≡ wordOf (lintReportOf (now (image .entry)) (length (now (report .entry)))) ⌝ }
+    ensures later { λ r. ⌜ now (report .exit) ≡ lintReportAfter (now (image .entry)) (now (report .entry)) ⌝ }
+{
+    match report::lint_report(image, report) {
+        WriteAnswer::Bytes(n) => count_word(n),
+        WriteAnswer::Refused(why) => refusal_word(why),
+    }
+}
+
+// The identity of an image: eighteen numbers.
+#[no_mangle]
+pub extern "C" fn roostcord_identity(image: &[u8], out: &mut [u32]) -> i32
+    ensures answer { λ r. ⌜ r ≡ wordOf (listedIn 18 (identityList (now (image .entry))) (length (now (out .entry)))) ⌝ }
+    ensures later { λ r. ⌜ now (out .exit) ≡ listAfter 18 (identityList (now (image .entry))) (now (out .entry)) ⌝ }
+{
+    if out.len() < 18 {
+        return refusal_word(Refusal::ListTooShort);
+    }
+    match decoders::identity::decode_identity_and_base(image) {
+        IdentityAnswer::Decoded(d) => {
+            put_identity(d, out);
+            18
+        }
+        IdentityAnswer::Refused(why) => refusal_word(why),
+    }
+}
+
+// The timings of an image: thirty numbers.
+#[no_mangle]
+pub extern "C" fn roostcord_timings(image: &[u8], out: &mut [u32]) -> i32
+    ensures answer { λ r. ⌜ r ≡ wordOf (listedIn 30 (timingsList (now (image .entry))) (length (now (out .entry)))) ⌝ }
+    ensures later { λ r. ⌜ now (out .exit) ≡ listAfter 30 (timingsList (now (image .entry))) (now (out .entry)) ⌝ }
+{
+    if out.len() < 30 {
+        return refusal_word(Refusal::ListTooShort);
+    }
+    match decoders::timing::decode_timings(image) {
+        TimingsAnswer::Decoded(t) => {
+            put_timings(t, out);
+            30
+        }
+        TimingsAnswer::Refused(why) => refusal_word(why),
+    }
+}
+
+// The supported CAS latencies of an image, ascending: up to forty numbers.
+#[no_mangle]
+pub extern "C" fn roostcord_cas_latencies(image: &[u8], out: &mut [u16]) -> i32
+    ensures answer { λ r. ⌜ r ≡ wordOf (listedIn 40 (casNumbers (now (image .entry))) (length (now (out .entry)))) ⌝ }
+    ensures later { λ r. ⌜ now (out .exit) ≡ listAfter 40 (casNumbers (now (image .entry))) (now (out .entry)) ⌝ }
+{
+    if out.len() < 40 {
+        return refusal_word(Refusal::ListTooShort);
+    }
+    match decoders::timing::decode_timings(image) {
+        TimingsAnswer::Decoded(t) => {
+            let set = t.supported_cas_latencies;
+            match set.list(out) {
+                CasListAnswer::Listed(n) => count_word(n),
+                CasListAnswer::Refused(why) => refusal_word(why),
+            }
+        }
+        TimingsAnswer::Refused(why) => refusal_word(why),
+    }
+}
+
+// The clock table of an image: nine numbers.
+#[no_mangle]
+pub extern "C" fn roostcord_clocks(image: &[u8], out: &mut [u32]) -> i32
+    ensures answer { λ r. ⌜ r ≡ wordOf (listedIn 9 (clocksList (now (image .entry))) (length (now (out .entry)))) ⌝ }
+    ensures later { λ r. ⌜ now (out .exit) ≡ listAfter 9 (clocksList (now (image .entry))) (now (out .entry)) ⌝ }
+{
+    if out.len() < 9 {
+        return refusal_word(Refusal::ListTooShort);
+    }
+    match decoders::timing::decode_timings(image) {
+        TimingsAnswer::Decoded(t) => match decoders::clocks::clock_table(t) {
+            ClockTableAnswer::Table(c) => {
+                put_clocks(c, out);
+                9
+            }
+            ClockTableAnswer::Refused(why) => refusal_word(why),
+        },
+        TimingsAnswer::Refused(why) => refusal_word(why),
+    }
+}
+
+// Makes the first 512 bytes a state that has taken nothing.
+#[no_mangle]
+pub extern "C" fn roostcord_pieces_fresh(state: &mut [u8]) -> i32
+    ensures answer { λ r. ⌜ r ≡ wordOf (freshIn (now (state .entry))) ⌝ }
+    ensures later { λ r. ⌜ now (state .exit) ≡ freshAfter (now (state .entry)) ⌝ }
+{
+    if state.len() < 512 {
+        return refusal_word(Refusal::ListTooShort);
+    }
+    let mut i: usize = 0;
+    while i < 512 {
+        state[i] = 0;
+        i += 1;
+    }
+    0
+}
+
+// Feeds a piece to the state in the first 512 bytes: the count of bytes taken.
+#[no_mangle]
+pub extern "C" fn roostcord_pieces_feed(state: &mut [u8], offset: usize, piece: &[u8]) -> i32
+    ensures answer { λ r. ⌜ r ≡ wordOf (feedIn (now (state .entry)) offset (now (piece .entry))) ⌝ }
+    ensures later { λ r. ⌜ now (state .exit) ≡ feedAfter (now (state .entry)) offset (now (piece .entry)) ⌝ }
+{
+    if state.len() < 512 {
+        return refusal_word(Refusal::ListTooShort);
+    }
+    let taken = count_in(state);
+    if offset != taken {
+        return refusal_word(Refusal::WrongOffset(taken));
+    }
+    if 2048 < taken {
+        return refusal_word(Refusal::TooLong);
+    }
+    if 2048 - taken < piece.len() {
+        return refusal_word(Refusal::TooLong);
+    }
+    let total = taken + piece.len();
+    pieces::lay(&mut state[2..512], taken, piece);
+    state[0] = (total % 256) as u8;
+    state[1] = (total / 256) as u8;
+    count_word(total)
+}
+
+// The count of bytes that a state has taken.
+#[no_mangle]
+pub extern "C" fn roostcord_pieces_taken(state: &[u8]) -> i32
+    ensures { λ r. ⌜ r ≡ wordOf (takenIn (now (state .entry))) ⌝ }
+{
+    if state.len() < 512 {
+        return refusal_word(Refusal::ListTooShort);
+    }
+    count_word(count_in(state))
+}
+
+// The questions to a state are those to the image that has arrived.
+#[no_mangle]
+pub extern "C" fn roostcord_pieces_lint(state: &[u8], report: &mut [u8]) -> i32
+    ensures answer { λ r. ⌜ r ≡ wordOf (asked (now (state .entry)) (lintReportOf (arrivedIn (now (state .entry))) (length (now (report .entry))))) ⌝ }
+    ensures later { λ r. ⌜ now (report .exit) ≡ pick (short (now (state .entry))) (now (report .entry)) (lintReportAfter (arrivedIn (now (state .entry))) (now (report .entry))) ⌝ }
+{
+    if state.len() < 512 {
+        return refusal_word(Refusal::ListTooShort);
+    }
+    roostcord_lint(arrived(state), report)
+}
+
+#[no_mangle]
+pub extern "C" fn roostcord_pieces_identity(state: &[u8], out: &mut [u32]) -> i32
+    ensures answer { λ r. ⌜ r ≡ wordOf (asked (now (state .entry)) (listedIn 18 (identityList (arrivedIn (now (state .entry)))) (length (now (out .entry))))) ⌝ }
+    ensures later { λ r. ⌜ now (out .exit) ≡ pick (short (now (state .entry))) (now (out .entry)) (listAfter 18 (identityList (arrivedIn (now (state .entry)))) (now (out .entry))) ⌝ }
+{
+    if state.len() < 512 {
+        return refusal_word(Refusal::ListTooShort);
+    }
+    roostcord_identity(arrived(state), out)
+}
+
+#[no_mangle]
+pub extern "C" fn roostcord_pieces_timings(state: &[u8], out: &mut [u32]) -> i32
+    ensures answer { λ r. ⌜ r ≡ wordOf (asked (now (state .entry)) (listedIn 30 (timingsList (arrivedIn (now (state .entry)))) (length (now (out .entry))))) ⌝ }
+    ensures later { λ r. ⌜ now (out .exit) ≡ pick (short (now (state .entry))) (now (out .entry)) (listAfter 30 (timingsList (arrivedIn (now (state .entry)))) (now (out .entry))) ⌝ }
+{
+    if state.len() < 512 {
+        return refusal_word(Refusal::ListTooShort);
+    }
+    roostcord_timings(arrived(state), out)
+}
+
+#[no_mangle]
+pub extern "C" fn roostcord_pieces_cas_latencies(state: &[u8], out: &mut [u16]) -> i32
+    ensures answer { λ r. ⌜ r ≡ wordOf (asked (now (state .entry)) (listedIn 40 (casNumbers (arrivedIn (now (state .entry)))) (length (now (out .entry))))) ⌝ }
+    ensures later { λ r. ⌜ now (out .exit) ≡ pick (short (now (state .entry))) (now (out .entry)) (listAfter 40 (casNumbers (arrivedIn (now (state .entry)))) (now (out .entry))) ⌝ }
+{
+    if state.len() < 512 {
+        return refusal_word(Refusal::ListTooShort);
+    }
+    roostcord_cas_latencies(arrived(state), out)
+}
+
+#[no_mangle]
+pub extern "C" fn roostcord_pieces_clocks(state: &[u8], out: &mut [u32]) -> i32
+    ensures answer { λ r. ⌜ r ≡ wordOf (asked (now (state .entry)) (listedIn 9 (clocksList (arrivedIn (now (state .entry)))) (length (now (out .entry))))) ⌝ }
+    ensures later { λ r. ⌜ now (out .exit) ≡ pick (short (now (state .entry))) (now (out .entry)) (listAfter 9 (clocksList (arrivedIn (now (state .entry)))) (now (out .entry))) ⌝ }
+{
+    if state.len() < 512 {
+        return refusal_word(Refusal::ListTooShort);
+    }
+    roostcord_clocks(arrived(state), out)
+}
+
+// A count as an answer.
+fn count_word(n: usize) -> i32
+    requires { ⌜ n < 2147483648 ⌝ }
+    ensures { λ r. ⌜ r ≡ pos n ⌝ }
+{
+    n as i32
+}
+
+// A refusal as an answer.
+fn refusal_word(why: Refusal) -> i32
+    ensures { λ r. ⌜ r ≡ negℤ (pos (refusalWord (told why))) ⌝ }
+{
+    let first = why.first() % 4096;
+    let second = why.second() % 1024;
+    minus(wide(why.number()) + 256 * first + 1048576 * second)
+}
+
+fn minus(word: usize) -> i32
+    requires { ⌜ word < 2147483648 ⌝ }
+    ensures { λ r. ⌜ r ≡ negℤ (pos word) ⌝ }
+{
+    -(word as i32)
+}
+
+// The count of bytes taken that a state says.
+fn count_in(state: &[u8]) -> usize
+    requires { ⌜ 2 ≤ length (now state) ⌝ }
+    ensures { λ r. ⌜ (r ≡ countIn (now (state .entry))) × (r < 4096) ⌝ }
+{
+    wide(state[0]) + 256 * (wide(state[1]) % 16)
+}
+
+fn wide(x: u8) -> usize
+    ensures { λ r. ⌜ (r ≡ x) × (r < 256) ⌝ }
+{
+    x as usize
+}
+
+// What has arrived of the image, as far as it is kept: a part of the state.
+fn arrived(state: &[u8]) -> &[u8]
+    requires { ⌜ 512 ≤ length (now state) ⌝ }
+    ensures { λ r. ⌜ now r ≡ arrivedIn (now (state .entry)) ⌝ }
+{
+    let taken = count_in(state);
+    if taken < 510 {
+        let end = 2 + taken;
+        return &state[2..end];
+    }
+    &state[2..512]
+}
+
+fn bit(set: bool) -> u32
+    ensures { λ r. ⌜ r ≡ Rattle.roostcord.specs.Numbers.bit set ⌝ }
+{
+    if set { 1 } else { 0 }
+}
+
+// The numbers of a record, laid into a list that has room for them.
+fn put_identity(identity: IdentityAndBase, out: &mut [u32])
+    requires { ⌜ 18 ≤ length (now out) ⌝ }
+    ensures { λ _. ⌜ now (out .exit) ≡ laid (identityNumbers identity) (now (out .entry)) ⌝ }
+{
+    let device_type = identity.device_type;
+    let module_type = identity.module_type;
+    let density_per_die = identity.density_per_die;
+    let package_type = identity.package_type;
+    let io_width = identity.io_width;
+    let bank_groups = identity.bank_groups;
+    let banks_per_bank_group = identity.banks_per_bank_group;
+    let numbers = [
+        identity.spd_bytes_total as u32,
+        identity.spd_revision.major as u32,
+        identity.spd_revision.minor as u32,
+        device_type.code() as u32,
+        module_type.code() as u32,
+        bit(identity.hybrid),
+        density_per_die.gigabits() as u32,
+        package_type.code() as u32,
+        identity.die_count as u32,
+        identity.row_address_bits as u32,
+        identity.column_address_bits as u32,
+        io_width.bits() as u32,
+        bank_groups.count() as u32,
+        banks_per_bank_group.count() as u32,
+        identity.package_ranks_per_channel as u32,
+        bit(identity.rank_mix_asymmetric),
+        identity.channels_per_dimm as u32,
+        identity.primary_bus_width_bits as u32,
+    ];
+    put(&numbers, out);
+}
+
+fn put_timings(t: Timings, out: &mut [u32])
+    requires { ⌜ 30 ≤ length (now out) ⌝ }
+    ensures { λ _. ⌜ now (out .exit) ≡ laid (timingNumbers t) (now (out .entry)) ⌝ }
+{
+    let mask = t.supported_cas_latencies.0;
+    let numbers = [
+        t.tckavg_min.0,
+        t.tckavg_max.0,
+        (mask % 4294967296) as u32,
+        (mask / 4294967296 % 256) as u32,
+        t.taa.0,
+        t.trcd.0,
+        t.trp.0,
+        t.tras.0,
+        t.trc.0,
+        t.twr.0,
+        t.trfc1.0,
+        t.trfc2.0,
+        t.trfcsb.0,
+        t.trrd_l.time.0,
+        t.trrd_l.clocks.0 as u32,
+        t.tccd_l.time.0,
+        t.tccd_l.clocks.0 as u32,
+        t.tccd_l_wr.time.0,
+        t.tccd_l_wr.clocks.0 as u32,
+        t.tccd_l_wr2.time.0,
+        t.tccd_l_wr2.clocks.0 as u32,
+        t.tfaw.time.0,
+        t.tfaw.clocks.0 as u32,
+        t.twtr_l.time.0,
+        t.twtr_l.clocks.0 as u32,
+        t.twtr_s.time.0,
+        t.twtr_s.clocks.0 as u32,
+        t.trtp.time.0,
+        t.trtp.clocks.0 as u32,
+        t.base_data_rate_mt_s(),
+    ];
+    put(&numbers, out);
+}
+
+fn put_clocks(c: ClockTable, out: &mut [u32])
+    requires { ⌜ 9 ≤ length (now out) ⌝ }
+    ensures { λ _. ⌜ now (out .exit) ≡ laid (clockNumbers c) (now (out .entry)) ⌝ }
+{
+    let numbers = [
+        c.taa,
+        c.trcd,
+        c.trp,
+        c.tras,
+        c.trc,
+        c.twr,
+        c.trfc1,
+        c.trfc2,
+        c.trfcsb,
+    ];
+    put(&numbers, out);
+}
+
+// Numbers over the front of a list that has room for them.
+fn put(numbers: &[u32], out: &mut [u32])
+    requires { ⌜ length (now numbers) ≤ length (now out) ⌝ }
+    ensures { λ _. ⌜ now (out .exit) ≡ laid (now (numbers .entry)) (now (out .entry)) ⌝ }
+{
+    let mut i: usize = 0;
+    while i < numbers.len() {
+        out[i] = numbers[i];
+        i += 1;
+    }
+}
