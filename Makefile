@@ -2,16 +2,20 @@
 
 IMAGE ?= samples/ddr5-4800.bin
 
-.PHONY: help lint test surface fmt
+.PHONY: help lint station test surface fmt
 
 help:
 	@echo 'make lint       lint an image: make lint IMAGE=path (samples/ddr5-4800.bin if none is named)'
+	@echo 'make station    build the C library and the host program, target/station/station'
 	@echo 'make test       prove every crate, try every must-fail edit, run every program and test (minutes)'
 	@echo 'make surface    hold the public calls to docs/PROMISES.md (a second)'
 	@echo 'make fmt        lay every Rattle and antt file out'
 
 lint:
 	@tools/lint '$(IMAGE)'
+
+station:
+	@tools/station
 
 test:
 	@tools/test

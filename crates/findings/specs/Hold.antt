@@ -10,7 +10,7 @@ use Rattle.findings.specs.declared.Found.the-variants.{Nothing, One}
 
 -- the finding that says nothing, which stands in a place that is not in use
 abbrev pub blankFinding : Finding
-blankFinding = record { code = 0; severity = Severity.Info; sub = 0; first = 0; second = 0; third = 0 }
+blankFinding = record { code = 0; severity = Severity.Error; sub = 0; first = 0; second = 0; third = 0 }
 
 -- fifteen places, none in use
 abbrev pub blankItems : List Finding

@@ -40,7 +40,7 @@ pub fn blank() -> Finding
 {
     Finding {
         code: 0,
-        severity: Severity::Info,
+        severity: Severity::Error,
         sub: 0,
         first: 0,
         second: 0,
