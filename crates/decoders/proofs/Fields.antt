@@ -1,15 +1,14 @@
 -- A code field taken with a mask is a remainder by a power of two, and bytes joined by shifts are a sum: one law for every width.
 -- Assumes nothing.
 use Prim.Native.Nat.{ℕ, zero, suc, _+_, _-_, _*_, _/_, _^_, _%_, _<_}
-use mathlib.Core.Path.{_≡_, refl, sym, ap, _∙_}
-use mathlib.Core.Bool.{Bool, not}
+use mathlib.Core.Path.{_≡_, refl, sym}
+use mathlib.Core.Bool.{not}
 use native.Mathlib.Nat.{mod-lt, mod-eq-of-lt, add-comm}
 use native.Mathlib.Omega.{arith}
 use borrow.Author.Tests.{eq-eqb, ne-eqb}
 use lib.Dec.{eqb}
 use lib.Pow.{pow-pos}
 use lib.Bits.{bitAnd, bitOr, and-mask, and-high, or-shifted-r}
-use Rattle.reading.specs.Said.{Said}
 
 -- the remainder that a definition says is the mask that the code takes
 pub masked : (w n : ℕ) → n % 2 ^ w ≡ bitAnd n (2 ^ w - 1)

@@ -1,5 +1,5 @@
 -- The count of the clock table is the smallest whole n with n * tCK at or above the time, as document 01 words it. Assumes nothing.
-use Prim.Native.Nat.{ℕ, _+_, _*_, _/_, _%_, _<_, _≤_}
+use Prim.Native.Nat.{ℕ, _+_, _*_, _/_, _%_, _<_}
 use mathlib.Core.Path.{_≡_}
 use native.Mathlib.Omega.{arith}
 use native.Mathlib.Nat.{div-add-mod', mod-lt, add-mul, le-of-mul-le-mul-right, lt-of-mul-lt-mul-right}

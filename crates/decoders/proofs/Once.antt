@@ -1,7 +1,5 @@
 -- No second answer fits a promise: two answers that say the same are the same. Assumes nothing.
-use Prim.Native.Nat.{ℕ}
 use mathlib.Core.Path.{_≡_, refl, ap}
-use Rattle.reading.specs.Said.{Said}
 use Rattle.reading.proofs.Once.{unsaid, untold-told, once}
 use Rattle.decoders.specs.Answers.{identitySaid, timingsSaid, casListSaid, clockTableSaid}
 use Rattle.decoders.specs.declared.identity.IdentityAnswer.{IdentityAnswer}

@@ -1,7 +1,7 @@
 // An image of at most 2,048 bytes that arrives in pieces, each with its offset. The state goes in by value and comes back.
 ghost use mathlib.Core.Path.{_≡_};
 ghost use Prim.Native.Nat.{_-_, min};
-ghost use lib.ListN.{length, take};
+ghost use lib.ListN.{take};
 ghost use Rattle.decoders.specs.Answers.{identitySaid, timingsSaid};
 ghost use Rattle.decoders.specs.Identity.{identityOf};
 ghost use Rattle.decoders.specs.Timing.{timingsOf};

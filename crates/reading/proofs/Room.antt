@@ -1,5 +1,5 @@
 -- A region lies inside an image where what is left of the image past its offset is long enough. Assumes nothing.
-use Prim.Native.Nat.{ℕ, _+_, _-_, _<_, _≤_}
+use Prim.Native.Nat.{ℕ, _+_, _-_, _≤_}
 use mathlib.Core.Path.{_≡_}
 use mathlib.Core.Bool.{true, not}
 use native.Mathlib.Omega.{arith}

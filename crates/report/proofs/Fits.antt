@@ -35,7 +35,7 @@ module _ (s : List ℕ) (bytes : (i : ℕ) → getD s i 0 < 256) where
       found-held flags (findingsOf s) room (at-most-fifteen s)
       ∙ fits flags (findingsOf s) room (record { flagged = h; few = at-most-fifteen s; listed = inside s bytes })
 
-  -- the two promises of a call that lints and writes
+  -- `lint_report` skips the checks of `write_findings`: it answers, and leaves the buffer, as that call does on the same findings
   pub lint-answer : (room : ℕ) → foundOf (flagsFor (identityOf s) (timingsOf s)) (holding (findingsOf s)) room ≡ lintReportOf s room
   unfolding lintReportOf
   lint-answer room = lint-fits (flagsFor (identityOf s) (timingsOf s)) room (flags-few (identityOf s) (timingsOf s))

@@ -7,7 +7,7 @@ ghost use Rattle.reading.specs.Lent.{laid};
 ghost use Rattle.rules.specs.Table.{rowOf, inTable, allIn, same};
 ghost use Rattle.report.specs.Table.{Limited, inLimits};
 ghost use Rattle.report.specs.Form.{findingBytes, reportOf, restOf, numberIn, findingIn, findingsIn};
-ghost use Rattle.report.specs.Write.{writeSaid, writeOf, writtenOver, foundOf, lintReportOf, lintReportAfter, flagsOf};
+ghost use Rattle.report.specs.Write.{writeSaid, writeOf, writtenOver, fitted, foundOf, lintReportOf, lintReportAfter, flagsOf};
 ghost use Rattle.report.specs.Read.{readSaid, readingSaid, readingOf, readOf, readAfter, readReplied, readRefused, gatheredOf, acceptedOf, Headed};
 use decoders::identity::IdentityAnswer;
 use decoders::timing::TimingsAnswer;
@@ -57,17 +57,26 @@ pub fn write_findings(flags: u8, found: Findings, out: &mut [u8]) -> WriteAnswer
         return WriteAnswer::Refused(Refusal::NotReportable);
     }
     if all_in(found) {
-        let size = 3 + 14 * n + 2;
-        if out.len() < size {
-            return WriteAnswer::Refused(Refusal::BufferTooSmall);
-        }
-        put_all(flags, found, out);
-        return WriteAnswer::Bytes(size);
+        return write_fitting(flags, found, out);
     }
     WriteAnswer::Refused(Refusal::NotReportable)
 }
 
-// Lints an image and writes its report: linting never meets refusal 12, so want of room is the only refusal.
+// Writes findings that are the form's, where the buffer has room for them.
+fn write_fitting(flags: u8, found: Findings, out: &mut [u8]) -> WriteAnswer
+    requires { ⌜ found .count ≤ 15 ⌝ }
+    ensures answer { λ r. ⌜ writeSaid r ≡ fitted (found .count) (length (now (out .entry))) ⌝ }
+    ensures later { λ r. ⌜ now (out .exit) ≡ writtenOver (fitted (found .count) (length (now (out .entry)))) flags (take (found .count) (found .items)) (now (out .entry)) ⌝ }
+{
+    let size = 3 + 14 * found.count + 2;
+    if out.len() < size {
+        return WriteAnswer::Refused(Refusal::BufferTooSmall);
+    }
+    put_all(flags, found, out);
+    WriteAnswer::Bytes(size)
+}
+
+// Lints an image and writes its report. What linting finds is always the form's, so want of room is the only refusal.
 pub fn lint_report(image: &[u8], out: &mut [u8]) -> WriteAnswer
     ensures answer { λ r. ⌜ writeSaid r ≡ lintReportOf (now (image .entry)) (length (now (out .entry))) ⌝ }
     ensures later { λ r. ⌜ now (out .exit) ≡ lintReportAfter (now (image .entry)) (now (out .entry)) ⌝ }
@@ -76,7 +85,7 @@ pub fn lint_report(image: &[u8], out: &mut [u8]) -> WriteAnswer
     let identity = linted.identity;
     let timings = linted.timings;
     let found = linted.findings;
-    write_findings(flags_of(identity, timings), found, out)
+    write_fitting(flags_of(identity, timings), found, out)
 }
 
 // Bit 0: identity decoded. Bit 1: timings decoded.

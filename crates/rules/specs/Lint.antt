@@ -1,7 +1,7 @@
 -- The findings of an image: every rule's answer, in document 01's order; a rule on a record is silent where its decoder refused.
 -- Assumes nothing.
 use Prim.Native.Nat.{ℕ}
-use mathlib.Core.List.{List, [], _∷_, _++_, map}
+use mathlib.Core.List.{List, _++_, map}
 use lib.Dec.{ltb}
 use lib.ListN.{length}
 use Rattle.reading.specs.Pick.{pick}

@@ -1,7 +1,7 @@
 -- Document 01, rules 2 and 3: what each says of a record's values. Assumes nothing.
 use Prim.Native.Nat.{ℕ, zero, suc, _+_, _/_, _%_}
 use mathlib.Core.List.{List, [], _∷_}
-use mathlib.Core.Bool.{Bool, true, false, not}
+use mathlib.Core.Bool.{Bool, true, false}
 use lib.Dec.{eqb, ltb}
 use Rattle.reading.specs.Pick.{pick}
 use Rattle.findings.specs.declared.Found.{Found}

@@ -7,7 +7,7 @@ ghost use Rattle.findings.specs.Hold.{holding};
 ghost use Rattle.findings.specs.Lent.{listed};
 ghost use Rattle.rules.specs.Table.{orderSub, clockSub, nonIntegerDeviceCount, trcIdentityMismatch, timingOrderingViolation, nonIntegerCasLatency, casLatencyNotSupported, nonIntegerClockTiming, nonStandardDataRate, reservedBytesNonzero, packageDieCountMismatch};
 ghost use Rattle.rules.specs.Regions.{offsets, lengths, firstFrom, regionAt, regionRules};
-ghost use Rattle.rules.specs.Rules.{deviceCount, capacity, coherence, trcIdentity, ordering, supportedIn, casLatency, clockMultiple, onLadder, standardRate, timingRules, ratedRules, each};
+ghost use Rattle.rules.specs.Rules.{deviceCount, capacity, coherence, trcIdentity, ordering, supportedIn, casLatency, clockMultiple, onLadder, standardRate, timingRules, each};
 ghost use Rattle.rules.specs.Lint.{lintSaid, lintOf, replied, lintAnswerSaid, lintAnswerOf, findingsOf, ratedFindings, ratedSaid, ratedReplied, ratedOf};
 ghost use Rattle.rules.specs.Lanes.{lanes, severityNumber, severityOf, noted, noteAll, findingIn, recordsOf};
 ghost use Rattle.rules.specs.Word.{sum64, le64};

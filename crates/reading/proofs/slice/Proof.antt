@@ -1,8 +1,7 @@
 -- `reading::slice` meets its contract: where `inside` holds the part is the region, and else it is empty.
 -- Assumes nothing.
 use Prim.Native.Nat.{_+_, _-_, _≤_}
-use mathlib.Core.Path.{_≡_, sym, _∙_}
-use native.Mathlib.Omega.{arith}
+use mathlib.Core.Path.{sym, _∙_}
 use native.Mathlib.Nat.{add-sub-cancel-left}
 use lib.ListN.{length}
 use borrow.Author.Needs.{needs}

@@ -1,6 +1,6 @@
 -- `roostcord::roostcord_lint` meets its contract: what `lint_report` answers, as a word; a report is at most 215 bytes, so its count fits.
 -- Assumes nothing.
-use Prim.Native.Nat.{ℕ, _+_, _<_, _≤_}
+use Prim.Native.Nat.{ℕ, _+_, _<_}
 use mathlib.Core.Path.{_≡_, ap, _∙_, sym}
 use mathlib.Core.List.{List}
 use mathlib.Core.Bool.{Bool, true, false}
@@ -9,7 +9,7 @@ use lib.Dec.{ltb}
 use lib.ListN.{length}
 use borrow.Author.Needs.{needs}
 use Rattle.reading.specs.Pick.{pick}
-use Rattle.reading.specs.Said.{Said, gives, refused}
+use Rattle.reading.specs.Said.{gives, refused}
 use Rattle.rules.specs.Lint.{findingsOf}
 use Rattle.rules.proofs.Never.{at-most-fifteen}
 use Rattle.report.specs.Form.{restOf}

@@ -1,7 +1,5 @@
 -- `decoders::clocks::clock_table` meets its contract: each field is what `cycles` ensures, so the table is one path of records.
 -- Assumes nothing.
-use Prim.Native.Nat.{_<_}
-use native.Mathlib.Omega.{arith}
 use borrow.Author.Needs.{needs}
 use borrow.Author.Tests.{eq-eqb, ne-eqb}
 use Rattle.reading.specs.Said.{gives}

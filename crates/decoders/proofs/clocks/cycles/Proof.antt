@@ -1,6 +1,6 @@
 -- `decoders::clocks::cycles` meets its contract: where a remainder is left the quotient is below the time, so one more fits.
 -- Assumes nothing.
-use Prim.Native.Nat.{_*_, _/_, _%_, _≤_}
+use Prim.Native.Nat.{_*_, _/_, _≤_}
 use native.Mathlib.Omega.{arith}
 use native.Mathlib.Nat.{div-add-mod', le-mul-of-pos-right}
 use borrow.Author.Needs.{needs}

@@ -1,6 +1,6 @@
 -- `decoders::timing::CasLatencies::list` meets its contract. The loop's invariant: the latencies of the bits passed are laid into the lent list,
 -- and n counts them. Assumes nothing.
-use Prim.Native.Nat.{ℕ, _+_, _-_, _*_, _<_, _≤_}
+use Prim.Native.Nat.{ℕ, _-_, _<_, _≤_}
 use mathlib.Core.Path.{_≡_, refl, ap, sym, _∙_}
 use mathlib.Core.Logic.{⊎-elim}
 use native.Mathlib.Omega.{arith}
