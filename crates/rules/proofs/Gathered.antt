@@ -8,8 +8,9 @@ use native.Mathlib.Numerals.{add-one}
 use native.Mathlib.Nat.{le-refl, suc-add, zero-add}
 use borrow.Author.Tests.{lt-ltb}
 use lib.Dec.{ltb}
-use lib.ListN.{length, take, set, getD, replicate, length-append, length-set}
-use lib.Seq.{set-append-seam, set-at, take-suc, take-length}
+use lib.ListN.{length, take, drop, set, getD, replicate, length-append, length-set}
+use lib.Seq.{set-append-seam, set-at, take-suc, take-length, drop-cons}
+use Rattle.reading.specs.Lent.{laid}
 use Rattle.reading.proofs.Picked.{either}
 use Rattle.findings.specs.declared.Severity.{Severity}
 use Rattle.findings.specs.declared.Severity.the-variants.{Error, Warning, Info}
@@ -18,15 +19,19 @@ use Rattle.findings.specs.declared.Found.{Found}
 use Rattle.findings.specs.declared.Found.the-variants.{Nothing, One}
 use Rattle.findings.specs.Hold.{blankFinding, holding, toList, cat}
 use Rattle.findings.proofs.Laws.{kept-few}
-use Rattle.rules.specs.Lanes.{Lanes, lanes, severityNumber, severityOf, Three, headOf, numbersOf, joined, stored, threeAt, noted, noteAll, findingIn, firstFindings, recordsOf, flat, lane, lanesHolding}
+use Rattle.rules.specs.Lanes.{Lanes, lanes, severityNumber, severityOf, Three, headOf, numbersOf, joined, stored, threeAt, noted, noteAll, findingIn, firstFindings, recordsOf, flat, lanesHolding}
 
 -- ---- three numbers in a row of a flat list
 set-past : (p q : List ℕ) (k v : ℕ) → set (p ++ q) (length p + k) v ≡ p ++ set q k v
 set-past [] q k v = rw zero-add
 set-past (x ∷ p) q k v = rw (suc-add, set-past p q k v)
 
-stored-past : (p q : List ℕ) (n : ℕ) (t : Three) → length p ≡ 3 * n → stored (p ++ (0 ∷ 0 ∷ 0 ∷ q)) n t ≡ p ++ (t .a ∷ t .b ∷ t .c ∷ q)
-stored-past p q n t e = rw (← e, set-append-seam p 0 (0 ∷ 0 ∷ q) (t .a), set-past p (t .a ∷ 0 ∷ 0 ∷ q) 1 (t .b), set-past p (t .a ∷ t .b ∷ 0 ∷ q) 2 (t .c))
+stored-past : (p q : List ℕ) (n x y z : ℕ) (t : Three) → length p ≡ 3 * n → stored (p ++ (x ∷ y ∷ z ∷ q)) n t ≡ p ++ (t .a ∷ t .b ∷ t .c ∷ q)
+stored-past p q n x y z t e = rw (← e, set-append-seam p x (y ∷ z ∷ q) (t .a), set-past p (t .a ∷ y ∷ z ∷ q) 1 (t .b), set-past p (t .a ∷ t .b ∷ z ∷ q) 2 (t .c))
+
+-- the next three places of what was there
+next-three : (e : List ℕ) (k : ℕ) → k + 3 ≤ length e → drop k e ≡ getD e k 0 ∷ getD e (suc k) 0 ∷ getD e (suc (suc k)) 0 ∷ drop (suc (suc (suc k))) e
+next-three e k h = rw (drop-cons e k 0 (omega arith), drop-cons e (suc k) 0 (omega arith), drop-cons e (suc (suc k)) 0 (omega arith))
 
 module _ (t : Finding → Three) where
   length-flat : (l : List Finding) → length (flat t l) ≡ 3 * length l
@@ -38,12 +43,13 @@ module _ (t : Finding → Three) where
   flat-append (f ∷ l) m = rw (flat-append l m)
 
   -- the next place takes one finding more
-  lane-on : (l : List Finding) (f : Finding) → length l < 15 → stored (lane t l) (length l) (t f) ≡ lane t (l ++ (f ∷ []))
-  lane-on l f h =
-      let e : 45 - 3 * length l ≡ suc (suc (suc (45 - 3 * (length l + 1)))) = omega arith in
-      let m : length (l ++ (f ∷ [])) ≡ length l + 1 = length-append l (f ∷ []) in
-      rw (e, m, flat-append l (f ∷ []), append-assoc)
-      (stored-past (flat t l) (replicate (45 - 3 * (length l + 1)) 0) (length l) (t f) (length-flat l))
+  lane-on : (e : List ℕ) (l : List Finding) (f : Finding) → 45 ≤ length e → length l < 15 → stored (laid (flat t l) e) (length l) (t f) ≡ laid (flat t (l ++ (f ∷ []))) e
+  lane-on e l f w h =
+      let k = length (flat t l) in
+      let p = length-flat l in
+      let m : length (flat t (l ++ (f ∷ []))) ≡ suc (suc (suc k)) = omega (arith, length-flat (l ++ (f ∷ [])), length-append l (f ∷ [])) in
+      rw (m, next-three e k (omega arith), flat-append l (f ∷ []), append-assoc)
+      (stored-past (flat t l) (drop (suc (suc (suc k))) e) (length l) (getD e k 0) (getD e (suc k) 0) (getD e (suc (suc k)) 0) (t f) p)
 
   -- and a place in use holds its finding
   lane-at : (l : List Finding) (r : List ℕ) (k : ℕ) → k < length l → threeAt (flat t l ++ r) k ≡ t (getD l k blankFinding)
@@ -55,30 +61,35 @@ module _ (t : Finding → Three) where
       rw (e₁, e₂, e₀) (lane-at l r k (omega arith))
 
 -- ---- noting
--- fresh arrays hold nothing
+-- fresh arrays, and arrays with room
 abbrev pub fresh : Lanes
 fresh = lanes (replicate 45 0) (replicate 45 0) 0
 
-pub none-held : fresh ≡ lanesHolding []
-unfolding lanesHolding
-none-held = refl
+abbrev pub Room : List ℕ → Type 0
+Room e = 45 ≤ length e
 
-pub note-held : (l : List Finding) (x : Found) → length (l ++ toList x) ≤ 15 → noted (lanesHolding l) x ≡ lanesHolding (l ++ toList x)
-unfolding lanesHolding
-note-held l Nothing h = rw append-nil
-note-held l (One f) h =
-    let m : length (l ++ (f ∷ [])) ≡ length l + 1 = length-append l (f ∷ []) in
-    let k : length l < 15 = omega arith in
-    rw (lt-ltb (length l) 15 k) (λ i. lanes (lane-on headOf l f k i) (lane-on numbersOf l f k i) (sym m i))
+module _ (h n : List ℕ) (wide : Room h) (deep : Room n) where
+  note-held : (l : List Finding) (x : Found) → length (l ++ toList x) ≤ 15 → noted (lanesHolding h n l) x ≡ lanesHolding h n (l ++ toList x)
+  unfolding lanesHolding
+  note-held l Nothing few = rw append-nil
+  note-held l (One f) few =
+      let m : length (l ++ (f ∷ [])) ≡ length l + 1 = length-append l (f ∷ []) in
+      let k : length l < 15 = omega arith in
+      rw (lt-ltb (length l) 15 k) (λ i. lanes (lane-on headOf h l f wide k i) (lane-on numbersOf n l f deep k i) (sym m i))
 
--- a row of answers, noted one after the other
-pub noteAll-held : (xs : List Found) (l : List Finding) → length (l ++ cat xs) ≤ 15 → noteAll (lanesHolding l) xs ≡ lanesHolding (l ++ cat xs)
-unfolding noteAll
-noteAll-held [] l h = rw append-nil
-noteAll-held (x ∷ xs) l h =
-    let e : l ++ (toList x ++ cat xs) ≡ (l ++ toList x) ++ cat xs = rw append-assoc in
-    let h′ : length ((l ++ toList x) ++ cat xs) ≤ 15 = rw e at h in
-    rw (note-held l x (omega (arith, length-append (l ++ toList x) (cat xs))), e) (noteAll-held xs (l ++ toList x) h′)
+  -- a row of answers, noted one after the other
+  noteAll-held : (xs : List Found) (l : List Finding) → length (l ++ cat xs) ≤ 15 → noteAll (lanesHolding h n l) xs ≡ lanesHolding h n (l ++ cat xs)
+  unfolding noteAll
+  noteAll-held [] l few = rw append-nil
+  noteAll-held (x ∷ xs) l few =
+      let e : l ++ (toList x ++ cat xs) ≡ (l ++ toList x) ++ cat xs = rw append-assoc in
+      let few′ : length ((l ++ toList x) ++ cat xs) ≤ 15 = rw e at few in
+      rw (note-held l x (omega (arith, length-append (l ++ toList x) (cat xs))), e) (noteAll-held xs (l ++ toList x) few′)
+
+  -- the answers of a row, noted where nothing was
+  pub all-held : {r : Lanes} (xs : List Found) → r ≡ noteAll (lanes h n 0) xs → length (cat xs) ≤ 15 → r ≡ lanesHolding h n (cat xs)
+  unfolding lanesHolding
+  all-held xs e few = e ∙ noteAll-held xs [] few
 
 pub noteAll-append : (l : Lanes) (xs ys : List Found) → noteAll l (xs ++ ys) ≡ noteAll (noteAll l xs) ys
 unfolding noteAll
@@ -109,8 +120,8 @@ noteAll-lengths l (x ∷ xs) e =
     (p .0 ∙ q .0, p .1 ∙ q .1)
 
 -- both lengths stay what they were, by what a call keeps
-pub still : {a b a′ b′ n : ℕ} {R : Type 0} → (a′ ≡ a) × ((b′ ≡ b) × R) → (a ≡ n) × (b ≡ n) → (a′ ≡ n) × (b′ ≡ n)
-still p q = (p .0 ∙ q .0, p .1 .0 ∙ q .1)
+pub still : {a b a′ b′ n : ℕ} {R : Type 0} → (a′ ≡ a) × ((b′ ≡ b) × R) → (n ≤ a) × (n ≤ b) → (n ≤ a′) × (n ≤ b′)
+still p q = (rw (p .0) (q .0), rw (p .1 .0) (q .1))
 
 -- ---- the records
 severity-back : (s : Severity) → severityOf (severityNumber s) ≡ s
@@ -118,23 +129,23 @@ severity-back Error = refl
 severity-back Warning = refl
 severity-back Info = refl
 
-place-held : (l : List Finding) (k : ℕ) → k < length l → findingIn (lanesHolding l .heads) (lanesHolding l .numbers) k ≡ getD l k blankFinding
-unfolding lanesHolding
-place-held l k h =
-    let z : List ℕ = replicate (45 - 3 * length l) 0 in
-    (λ i. joined (lane-at headOf l z k h i) (lane-at numbersOf l z k h i)) ∙ rw severity-back
+module _ (h n : List ℕ) (l : List Finding) where
+  pub place-held : (k : ℕ) → k < length l → findingIn (laid (flat headOf l) h) (laid (flat numbersOf l) n) k ≡ getD l k blankFinding
+  place-held k lt =
+      (λ i. joined (lane-at headOf l (drop (length (flat headOf l)) h) k lt i) (lane-at numbersOf l (drop (length (flat numbersOf l)) n) k lt i))
+      ∙ rw severity-back
 
-first-held : (l : List Finding) (k : ℕ) → k ≤ length l → firstFindings (lanesHolding l .heads) (lanesHolding l .numbers) k ≡ take k l
-first-held l zero h = refl
-first-held l (suc k) h = rw (take-suc l k blankFinding h, first-held l k (omega arith), place-held l k h)
+  first-held : (k : ℕ) → k ≤ length l → firstFindings (laid (flat headOf l) h) (laid (flat numbersOf l) n) k ≡ take k l
+  first-held zero lt = refl
+  first-held (suc k) lt = rw (take-suc l k blankFinding lt, first-held k (omega arith), place-held k lt)
 
-pub records-held : (l : List Finding) → length l ≤ 15 → recordsOf (lanesHolding l) ≡ holding l
-unfolding lanesHolding holding
-records-held l h = rw (kept-few (length l) (omega arith), first-held l (length l) (le-refl (length l)), take-length)
+  pub records-held : length l ≤ 15 → recordsOf (lanesHolding h n l) ≡ holding l
+  unfolding lanesHolding holding
+  records-held few = rw (kept-few (length l) (omega arith), first-held (length l) (le-refl (length l)), take-length)
 
--- a row of answers noted in fresh arrays
+-- a row of answers noted in fresh arrays, as records
 pub whole : {r : Lanes} (xs : List Found) → r ≡ noteAll fresh xs → length (cat xs) ≤ 15 → recordsOf r ≡ holding (cat xs)
-whole xs e h = rw (e, none-held, noteAll-held xs [] h) (records-held (cat xs) h)
+whole xs e few = rw (all-held (replicate 45 0) (replicate 45 0) (le-refl 45) (le-refl 45) xs e few) (records-held (replicate 45 0) (replicate 45 0) (cat xs) few)
 
 -- one record more, in the first blank place
 length-first : (h n : List ℕ) (k : ℕ) → length (firstFindings h n k) ≡ k

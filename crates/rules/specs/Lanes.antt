@@ -1,10 +1,11 @@
--- How findings are gathered: three small numbers and three large ones for each place, in two flat arrays. Only private functions promise
--- in these terms. Assumes nothing.
+-- Findings as numbers: three small ones and three large ones for each finding, in two flat lists. Assumes nothing.
 use Prim.Native.Nat.{ℕ, zero, suc, _+_, _-_, _*_}
 use mathlib.Core.List.{List, [], _∷_, _++_}
 use lib.Dec.{eqb, ltb}
 use lib.ListN.{length, set, getD, replicate}
 use Rattle.reading.specs.Pick.{pick}
+use Rattle.reading.specs.Lent.{laid}
+use Rattle.reading.specs.Said.{Said, gives, refused}
 use Rattle.findings.specs.declared.Severity.{Severity}
 use Rattle.findings.specs.declared.Severity.the-variants.{Error, Warning, Info}
 use Rattle.findings.specs.declared.Finding.{Finding}
@@ -14,6 +15,7 @@ use Rattle.findings.specs.declared.Found.the-variants.{Nothing, One}
 use Rattle.findings.specs.Hold.{blankFinding}
 use Rattle.findings.specs.Lent.{keptOf}
 use Rattle.rules.specs.Table.{finding}
+use Rattle.rules.specs.Lint.{Listing, listingOf, findingsOf}
 
 pub record Lanes : Type 0 where
   pub heads : List ℕ
@@ -43,6 +45,26 @@ headOf f = record { a = f .code; b = severityNumber (f .severity); c = f .sub }
 abbrev pub numbersOf : Finding → Three
 numbersOf f = record { a = f .first; b = f .second; c = f .third }
 
+-- three numbers of each finding, one after the other
+abbrev pub flat : (Finding → Three) → List Finding → List ℕ
+flat t [] = []
+flat t (f ∷ l) = t f .a ∷ t f .b ∷ t f .c ∷ flat t l
+
+-- linting into two lent lists h and n: refusal 4, and both as they were, where one has fewer than forty-five places
+abbrev pub roomy : {A : Type 0} → (h n : List ℕ) → (short whole : A) → A
+roomy h n short whole = pick (ltb (length h) 45) short (pick (ltb (length n) 45) short whole)
+
+unfoldable pub lintNumbersOf : List ℕ → (h n : List ℕ) → Said Listing
+lintNumbersOf s h n = roomy h n (refused 4 0 0) (gives (listingOf s))
+
+-- the lists afterwards: the findings' numbers at the front, the other places as they were
+unfoldable pub headsAfter : List ℕ → (h n : List ℕ) → List ℕ
+headsAfter s h n = roomy h n h (laid (flat headOf (findingsOf s)) h)
+
+unfoldable pub numbersAfter : List ℕ → (h n : List ℕ) → List ℕ
+numbersAfter s h n = roomy h n n (laid (flat numbersOf (findingsOf s)) n)
+
+-- how the findings are gathered, and made into records
 abbrev pub joined : (head numbers : Three) → Finding
 joined h n = finding (h .a) (severityOf (h .b)) (h .c) (n .a) (n .b) (n .c)
 
@@ -82,14 +104,6 @@ recordsOf l =
       count = keptOf (l .count);
     }
 
--- three numbers of each finding, one after the other, and then zeros up to forty-five numbers
-abbrev pub flat : (Finding → Three) → List Finding → List ℕ
-flat t [] = []
-flat t (f ∷ l) = t f .a ∷ t f .b ∷ t f .c ∷ flat t l
-
-abbrev pub lane : (Finding → Three) → List Finding → List ℕ
-lane t l = flat t l ++ replicate (45 - 3 * length l) 0
-
--- the arrays and the count that hold a list of at most fifteen
-unfoldable pub lanesHolding : List Finding → Lanes
-lanesHolding l = lanes (lane headOf l) (lane numbersOf l) (length l)
+-- the arrays and the count that hold a list of findings, where the arrays were h and n
+unfoldable pub lanesHolding : (h n : List ℕ) → List Finding → Lanes
+lanesHolding h n l = lanes (laid (flat headOf l) h) (laid (flat numbersOf l) n) (length l)

@@ -64,6 +64,9 @@ pub record Listing : Type 0 where
   pub timings : Said Timings
   pub count : ℕ
 
+abbrev pub listingOf : List ℕ → Listing
+listingOf s = record { identity = identityOf s; timings = timingsOf s; count = length (findingsOf s) }
+
 abbrev pub listingSaid : LintRecords → Listing
 listingSaid r = record { identity = identitySaid (r .identity); timings = timingsSaid (r .timings); count = r .count }
 
@@ -78,9 +81,7 @@ replied len l =
 
 -- refusal 4 under fifteen places
 unfoldable pub lintAnswerOf : List ℕ → List Finding → Said Listing
-lintAnswerOf s list =
-    pick (ltb (length list) 15) (refused 4 0 0)
-    (gives (record { identity = identityOf s; timings = timingsOf s; count = length (findingsOf s) }))
+lintAnswerOf s list = pick (ltb (length list) 15) (refused 4 0 0) (gives (listingOf s))
 
 -- the findings of a rated profile, and refusal 4 under five places
 unfoldable pub ratedFindings : RatedTimings → List Finding

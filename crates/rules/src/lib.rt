@@ -3,13 +3,14 @@ ghost use mathlib.Core.Path.{_≡_};
 ghost use Prim.Native.Nat.{_+_, _-_, _<_, _≤_};
 ghost use lib.ListN.{length, getD};
 ghost use Rattle.reading.specs.View.{view};
+ghost use Rattle.reading.specs.Lent.{laid};
 ghost use Rattle.findings.specs.Hold.{holding};
 ghost use Rattle.findings.specs.Lent.{listed};
 ghost use Rattle.rules.specs.Table.{orderSub, clockSub, nonIntegerDeviceCount, trcIdentityMismatch, timingOrderingViolation, nonIntegerCasLatency, casLatencyNotSupported, nonIntegerClockTiming, nonStandardDataRate, reservedBytesNonzero, packageDieCountMismatch};
 ghost use Rattle.rules.specs.Regions.{offsets, lengths, firstFrom, regionAt, regionRules};
 ghost use Rattle.rules.specs.Rules.{deviceCount, capacity, coherence, trcIdentity, ordering, supportedIn, casLatency, clockMultiple, onLadder, standardRate, timingRules, each};
-ghost use Rattle.rules.specs.Lint.{lintSaid, lintOf, replied, lintAnswerSaid, lintAnswerOf, findingsOf, ratedFindings, ratedSaid, ratedReplied, ratedOf};
-ghost use Rattle.rules.specs.Lanes.{lanes, severityNumber, severityOf, noted, noteAll, findingIn, recordsOf};
+ghost use Rattle.rules.specs.Lint.{lintSaid, lintOf, replied, listingSaid, listingOf, lintAnswerSaid, lintAnswerOf, findingsOf, ratedFindings, ratedSaid, ratedReplied, ratedOf};
+ghost use Rattle.rules.specs.Lanes.{lanes, severityNumber, severityOf, headOf, numbersOf, flat, lintNumbersOf, headsAfter, numbersAfter, noted, noteAll, findingIn, recordsOf};
 ghost use Rattle.rules.specs.Word.{sum64, le64};
 use decoders::identity::IdentityAndBase;
 use decoders::identity::IdentityAnswer;
@@ -227,23 +228,52 @@ pub fn lint_image(image: &[u8]) -> Linted
 {
     let mut heads = [0u8; 45];
     let mut numbers = [0u32; 45];
-    let mut n = check_reserved_regions(image, &mut heads, &mut numbers);
-    let identity = decoders::identity::decode_identity_and_base(image);
-    if let IdentityAnswer::Decoded(d) = identity {
-        n = note(&mut heads, &mut numbers, n, check_capacity(d));
-        let package_type = d.package_type;
-        let x = check_package_coherence(package_type, d.die_count);
-        n = note(&mut heads, &mut numbers, n, x);
-    }
-    let timings = decoders::timing::decode_timings(image);
-    if let TimingsAnswer::Decoded(t) = timings {
-        n = check_base_timings(t, &mut heads, &mut numbers, n);
-    }
-    let findings = records(&heads, &numbers, n);
+    let linted = run_rules(image, &mut heads, &mut numbers);
+    let identity = linted.identity;
+    let timings = linted.timings;
+    let findings = records(&heads, &numbers, linted.count);
     Linted {
         identity,
         timings,
         findings,
+    }
+}
+
+// Lint an image into two lent lists of at least forty-five numbers: for each finding its code, severity and sub in the one, its three numbers in the
+// other. No record is made, so this is the way for a caller that only passes the numbers on.
+pub fn lint_numbers(image: &[u8], heads: &mut [u8], numbers: &mut [u32]) -> LintAnswer
+    ensures { λ r. ⌜ (lintAnswerSaid r ≡ lintNumbersOf (now (image .entry)) (now (heads .entry)) (now (numbers .entry))) × (now (heads .exit) ≡ headsAfter (now (image .entry)) (now (heads .entry)) (now (numbers .entry))) × (now (numbers .exit) ≡ numbersAfter (now (image .entry)) (now (heads .entry)) (now (numbers .entry))) ⌝ }
+{
+    if heads.len() < 45 {
+        return LintAnswer::Refused(Refusal::ListTooShort);
+    }
+    if numbers.len() < 45 {
+        return LintAnswer::Refused(Refusal::ListTooShort);
+    }
+    LintAnswer::Listed(run_rules(image, heads, numbers))
+}
+
+// Every rule, in document 01's order. A rule on a record is silent where its decoder refused.
+fn run_rules(image: &[u8], heads: &mut [u8], numbers: &mut [u32]) -> LintRecords
+    requires { ⌜ (45 ≤ length (now heads)) × (45 ≤ length (now numbers)) ⌝ }
+    ensures { λ r. ⌜ (listingSaid r ≡ listingOf (now (image .entry))) × (now (heads .exit) ≡ laid (flat headOf (findingsOf (now (image .entry)))) (now (heads .entry))) × (now (numbers .exit) ≡ laid (flat numbersOf (findingsOf (now (image .entry)))) (now (numbers .entry))) ⌝ }
+{
+    let mut n = check_reserved_regions(image, heads, numbers);
+    let identity = decoders::identity::decode_identity_and_base(image);
+    if let IdentityAnswer::Decoded(d) = identity {
+        n = note(heads, numbers, n, check_capacity(d));
+        let package_type = d.package_type;
+        let x = check_package_coherence(package_type, d.die_count);
+        n = note(heads, numbers, n, x);
+    }
+    let timings = decoders::timing::decode_timings(image);
+    if let TimingsAnswer::Decoded(t) = timings {
+        n = check_base_timings(t, heads, numbers, n);
+    }
+    LintRecords {
+        identity,
+        timings,
+        count: n,
     }
 }
 
@@ -317,7 +347,7 @@ const STANDARD_DDR5_RATES: [u32; 15] = [
 
 // Every rule on the base timings, in order.
 fn check_base_timings(t: Timings, heads: &mut [u8], numbers: &mut [u32], count: usize) -> usize
-    requires { ⌜ (length (now heads) ≡ 45) × (length (now numbers) ≡ 45) ⌝ }
+    requires { ⌜ (45 ≤ length (now heads)) × (45 ≤ length (now numbers)) ⌝ }
     ensures { λ r. ⌜ lanes (now (heads .exit)) (now (numbers .exit)) r ≡ noteAll (lanes (now (heads .entry)) (now (numbers .entry)) count) (each timingRules t) ⌝ }
 {
     let tck = t.tckavg_min;
@@ -522,7 +552,7 @@ const REGION_LENGTHS: [u16; 7] = [1, 1, 25, 64, 16, 4, 62];
 
 // The seven regions, in order.
 fn check_reserved_regions(image: &[u8], heads: &mut [u8], numbers: &mut [u32]) -> usize
-    requires { ⌜ (length (now heads) ≡ 45) × (length (now numbers) ≡ 45) ⌝ }
+    requires { ⌜ (45 ≤ length (now heads)) × (45 ≤ length (now numbers)) ⌝ }
     ensures { λ r. ⌜ lanes (now (heads .exit)) (now (numbers .exit)) r ≡ noteAll (lanes (now (heads .entry)) (now (numbers .entry)) 0) (each regionRules (view (now (image .entry)))) ⌝ }
 {
     let mut n: usize = 0;
@@ -635,7 +665,7 @@ pub fn check_package_coherence(package_type: PackageType, die_count: u8) -> Foun
 // Puts a rule's finding, if it has one, behind those that are there: three small numbers and three large ones in two flat
 // arrays, which are lent and so never copied. The answer is the new count.
 fn note(heads: &mut [u8], numbers: &mut [u32], n: usize, found: Found) -> usize
-    requires { ⌜ (length (now heads) ≡ 45) × (length (now numbers) ≡ 45) ⌝ }
+    requires { ⌜ (45 ≤ length (now heads)) × (45 ≤ length (now numbers)) ⌝ }
     ensures { λ r. ⌜ lanes (now (heads .exit)) (now (numbers .exit)) r ≡ noted (lanes (now (heads .entry)) (now (numbers .entry)) n) found ⌝ }
 {
     match found {
@@ -678,7 +708,7 @@ fn severity_of(number: u8) -> Severity
 
 // The findings as records.
 fn records(heads: &[u8], numbers: &[u32], n: usize) -> Findings
-    requires { ⌜ (length (now heads) ≡ 45) × (length (now numbers) ≡ 45) ⌝ }
+    requires { ⌜ (45 ≤ length (now heads)) × (45 ≤ length (now numbers)) ⌝ }
     ensures { λ r. ⌜ r ≡ recordsOf (lanes (now (heads .entry)) (now (numbers .entry)) n) ⌝ }
 {
     let count = findings::kept(n);
@@ -692,7 +722,7 @@ fn records(heads: &[u8], numbers: &[u32], n: usize) -> Findings
 }
 
 fn record_at(heads: &[u8], numbers: &[u32], i: usize) -> Finding
-    requires { ⌜ (i < 15) × (length (now heads) ≡ 45) × (length (now numbers) ≡ 45) ⌝ }
+    requires { ⌜ (i < 15) × (45 ≤ length (now heads)) × (45 ≤ length (now numbers)) ⌝ }
     ensures { λ r. ⌜ r ≡ findingIn (now (heads .entry)) (now (numbers .entry)) i ⌝ }
 {
     Finding {

@@ -1,67 +1,26 @@
--- `rules::lint_image` meets its contract: the regions, the identity and the timings each note their row of answers, a decoder that refused notes
--- none, and at most fifteen of the sixteen rules speak. Assumes nothing.
-use Prim.Native.Nat.{ℕ}
-use mathlib.Core.Path.{_≡_, refl, ap, sym, _∙_}
-use mathlib.Core.Logic.{⊎-elim}
-use mathlib.Core.List.{List, _++_, map}
+-- `rules::lint_image` meets its contract: `run_rules` leaves the findings in fresh arrays, and the records made of them are the findings.
+-- Assumes nothing.
+use mathlib.Core.Path.{ap, _∙_}
 use borrow.Author.Needs.{needs}
+use lib.ListN.{replicate}
 use denote.Ref.{now}
-use Rattle.reading.specs.View.{view}
-use Rattle.findings.specs.declared.Found.{Found}
-use Rattle.decoders.specs.Answers.{identitySaid, timingsSaid}
-use Rattle.decoders.specs.Identity.{identityOf}
-use Rattle.decoders.specs.Timing.{timingsOf}
-use Rattle.rules.specs.Regions.{regionRules}
-use Rattle.rules.specs.Rules.{identityRules, timingRules, each}
-use Rattle.rules.specs.Lint.{onGiven, lintRules, lintAt}
-use Rattle.rules.specs.Lanes.{lanes, noteAll}
-use Rattle.rules.proofs.Gathered.{fresh, note-on, row-on, noteAll-lengths, whole}
-use Rattle.rules.proofs.Never.{fits}
+use Rattle.rules.specs.Lint.{findingsOf, Listing}
+use Rattle.rules.specs.Lanes.{Lanes, lanes, recordsOf, lanesHolding}
+use Rattle.rules.proofs.Gathered.{fresh, records-held}
+use Rattle.rules.proofs.Never.{at-most-fifteen}
 use Rattle.rules.proofs.lint_image.Statement.{statement}
 use Rattle.rules.proofs.lint_image.Tie as tie
 
--- the answers of the rules on the regions and the identity, and of all rules
-abbrev first : List ℕ → List Found
-first s = each regionRules (view s) ++ each (map onGiven identityRules) (identityOf s)
-
-abbrev all : List ℕ → List Found
-all s = first s ++ each (map onGiven timingRules) (timingsOf s)
-
--- what the arrays and the count hold once the identity's rules have noted, and once the timings' have, by whichever way control came
-identified : (m : tie.At-match-came) → lanes (m .match .heads) (m .match .numbers) (m .match .n) ≡ noteAll fresh (first (now (m .before .before .before .before .before .before .before .before .args .image)))
-unfolding noteAll
-identified m =
-    row-on fresh (each regionRules (view (now (m .before .before .before .before .before .before .before .before .args .image))))
-    (ap (each (map onGiven identityRules)) (m .before .decode-identity-and-base .ensures))
-    (m .before .before .before .before .check-reserved-regions .ensures)
-    (⊎-elim
-    (λ w. rw (w .1 .given .1, w .15, w .16, w .17) (note-on (w .12 .ensures) (note-on (w .6 .ensures) refl (w .5 .ensures)) (w .9 .ensures)))
-    (λ w. rw (w .1 .given .1, w .2, w .3, w .4))
-    (m .match .came))
-
-timed : (m : tie.At-match2-came) → lanes (m .match2 .heads) (m .match2 .numbers) (m .match2 .n) ≡ noteAll fresh (all (now (m .before .before .before .before .before .before .before .before .before .before .args .image)))
-unfolding noteAll
-timed m =
-    row-on fresh (first (now (m .before .before .before .before .before .before .before .before .before .before .args .image)))
-    (ap (each (map onGiven timingRules)) (m .before .decode-timings .ensures))
-    (identified (m .before .before))
-    (⊎-elim
-    (λ w. rw (w .1 .given .1, w .8, w .9, w .10) (w .5 .ensures))
-    (λ w. rw (w .1 .given .1, w .2, w .3, w .4))
-    (m .match2 .came))
-
 returns : tie.Need-returns
-unfolding lintAt identityOf timingsOf
+unfolding lanesHolding
 returns c =
-    let m2 = c .before .before .before in
-    let m1 = m2 .before .before in
-    let v = view (now (m2 .before .before .before .before .before .before .before .before .before .before .args .image)) in
-    let d : m1 .match .identity ≡ m1 .before .decode-identity-and-base .result = ⊎-elim (λ w. w .18 ∙ sym (w .1 .given .1)) (λ w. w .5) (m1 .match .came) in
-    let t : m2 .match2 .timings ≡ m2 .before .decode-timings .result = ⊎-elim (λ w. w .11 ∙ sym (w .1 .given .1)) (λ w. w .5) (m2 .match2 .came) in
+    let e = c .before .before .before .before .before .run-rules .ensures in
+    let s = now (c .before .before .before .before .before .before .before .before .before .args .image) in
+    let n = ap (λ (l : Listing). l .count) (e .0) in
     λ i. record {
-      identity = (ap identitySaid d ∙ m1 .before .decode-identity-and-base .ensures) i;
-      timings = (ap timingsSaid t ∙ m2 .before .decode-timings .ensures) i;
-      findings = (c .records .ensures ∙ whole (each lintRules v) (timed m2) (fits v)) i;
+      identity = e .0 i .identity;
+      timings = e .0 i .timings;
+      findings = (c .records .ensures ∙ ap recordsOf (λ j. lanes (e .1 j) (e .2 j) (n j)) ∙ records-held (fresh .heads) (fresh .numbers) (findingsOf s) (at-most-fifteen s)) i;
     }
 
 pub lint-image-spec : {M : Type 1} → statement M
@@ -71,24 +30,7 @@ lint-image-spec =
     (λ c. search needs)
     (λ c. search needs)
     (λ c κs. search needs)
-    (λ c κs. search needs)
-    (λ c. search needs)
-    (λ c. search needs)
-    (λ c. search needs)
-    (λ c κs. search needs)
-    (λ c κs. search needs)
-    (λ c κs. search needs)
     (λ c. search needs)
     (λ c. search needs)
     (λ c κs. search needs)
-    (λ c. search needs)
-    (λ c κs. search needs)
-    (λ c. search needs)
-    (λ c. sym (noteAll-lengths fresh _ (identified (c .before .before .before .before .before)) .0))
-    (λ c. sym (noteAll-lengths fresh _ (identified (c .before .before .before .before .before .before)) .1))
-    (λ c κs. noteAll-lengths fresh _ (identified (c .before .before .before .before .before .before)))
-    (λ c. search needs)
-    (λ c. sym (noteAll-lengths fresh _ (timed (c .before)) .0))
-    (λ c. sym (noteAll-lengths fresh _ (timed (c .before .before)) .1))
-    (λ c κs. noteAll-lengths fresh _ (timed (c .before .before)))
     returns)
