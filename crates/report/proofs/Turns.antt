@@ -17,6 +17,9 @@ use Rattle.findings.specs.Hold.{blankItems, holding}
 use Rattle.findings.specs.Lent.{over}
 use Rattle.findings.proofs.Laws.{kept-few, over-step, load-held}
 use Rattle.rules.specs.Table.{finding, inTable, allIn}
+use Rattle.rules.specs.Lanes as rules
+use Rattle.rules.specs.Lanes.{firstFindings}
+use Rattle.rules.proofs.Gathered.{length-first}
 use Rattle.report.specs.Form.{findingBytes, bodyOf, headOf, reportOf, findingIn, findingsIn}
 use Rattle.report.proofs.Form.{length-body}
 
@@ -71,17 +74,38 @@ body-last : (l : List Finding) (f : Finding) → bodyOf (l ++ (f ∷ [])) ≡ bo
 body-last [] f = refl
 body-last (g ∷ l) f = rw (body-last l f)
 
+module _ (flags n : ℕ) (l : List Finding) (f : Finding) (d : List ℕ) (at : ℕ) (behind : length (headOf flags n ++ bodyOf l) ≡ at) where
+  pub next-row : {b o out : List ℕ} → b ≡ findingBytes f → o ≡ laid (headOf flags n ++ bodyOf l) d → out ≡ take at o ++ b ++ drop (at + length b) o
+      → out ≡ laid (headOf flags n ++ bodyOf (l ++ (f ∷ []))) d
+  next-row p q r =
+      (rw (p, q) at r) ∙ laid-on (headOf flags n ++ bodyOf l) (findingBytes f) d at behind ∙ ap (λ (t : List ℕ). laid (headOf flags n ++ t) d) (sym (body-last l f))
+
+pub all-rows : (flags : ℕ) (l : List Finding) (d : List ℕ) {n : ℕ} {o out : List ℕ} → length l ≡ n → o ≡ laid (headOf flags n) d → out ≡ laid (headOf flags n ++ bodyOf l) o → out ≡ laid (reportOf flags l) d
+all-rows flags l d e p q = q ∙ rw (p, e) (laid-again (headOf flags _) (bodyOf l) d)
+
 module _ (flags n : ℕ) (xs : List Finding) (h : n ≤ length xs) where
   pub next-put : (d : List ℕ) (i : ℕ) → i < n → {b o out : List ℕ} → b ≡ findingBytes (getD xs i unread) → o ≡ laid (headOf flags n ++ bodyOf (take i (take n xs))) d
       → out ≡ take (5 + 14 * i) o ++ b ++ drop (5 + 14 * i + length b) o → out ≡ laid (headOf flags n ++ bodyOf (take (i + 1) (take n xs))) d
   next-put d i k p q r =
       let l = take n xs in
       let m = length-take-le n xs h in
-      let e : bodyOf (take (i + 1) l) ≡ bodyOf (take i l) ++ findingBytes (getD xs i unread) = rw (add-one, take-suc l i unread (omega arith), getD-take n xs i unread k) (body-last (take i l) (getD xs i unread)) in
-      let g = laid-on (headOf flags n ++ bodyOf (take i l)) (findingBytes (getD xs i unread)) d (5 + 14 * i) (omega (arith, length-body (take i l), length-take-le i l (omega arith))) in
-      (rw (p, q) at r) ∙ g ∙ ap (λ (t : List ℕ). laid (headOf flags n ++ t) d) (sym e)
+      let e : take (i + 1) l ≡ take i l ++ (getD xs i unread ∷ []) = rw (add-one, take-suc l i unread (omega arith), getD-take n xs i unread k) in
+      next-row flags n (take i l) (getD xs i unread) d (5 + 14 * i) (omega (arith, length-body (take i l), length-take-le i l (omega arith))) p q r
+      ∙ ap (λ (t : List Finding). laid (headOf flags n ++ bodyOf t) d) (sym e)
 
   pub all-put : (d : List ℕ) (i : ℕ) → n ≤ i → {o out : List ℕ} → o ≡ laid (headOf flags n) d → out ≡ laid (headOf flags n ++ bodyOf (take i (take n xs))) o → out ≡ laid (reportOf flags (take n xs)) d
-  all-put d i k p q =
+  all-put d i k {o} p q =
       let m = length-take-le n xs h in
-      q ∙ rw (p, take-all i (take n xs) (omega arith), m) (laid-again (headOf flags n) (bodyOf (take n xs)) d)
+      all-rows flags (take n xs) d m p (q ∙ ap (λ (t : List Finding). laid (headOf flags n ++ bodyOf t) o) (take-all i (take n xs) (omega arith)))
+
+-- ---- put_numbers: the same, where the findings stand as numbers
+module _ (flags n : ℕ) (hs ns : List ℕ) where
+  pub next-numbers : (d : List ℕ) (i : ℕ) {b o out : List ℕ} → b ≡ findingBytes (rules.findingIn hs ns i) → o ≡ laid (headOf flags n ++ bodyOf (firstFindings hs ns i)) d
+      → out ≡ take (5 + 14 * i) o ++ b ++ drop (5 + 14 * i + length b) o → out ≡ laid (headOf flags n ++ bodyOf (firstFindings hs ns (i + 1))) d
+  next-numbers d i p q r =
+      next-row flags n (firstFindings hs ns i) (rules.findingIn hs ns i) d (5 + 14 * i) (omega (arith, length-body (firstFindings hs ns i), length-first hs ns i)) p q r
+      ∙ ap (λ (k : ℕ). laid (headOf flags n ++ bodyOf (firstFindings hs ns k)) d) (sym (add-one i))
+
+  pub all-numbers : (d : List ℕ) (i : ℕ) → i ≡ n → {o out : List ℕ} → o ≡ laid (headOf flags n) d → out ≡ laid (headOf flags n ++ bodyOf (firstFindings hs ns i)) o → out ≡ laid (reportOf flags (firstFindings hs ns n)) d
+  all-numbers d i e {o} p q =
+      all-rows flags (firstFindings hs ns n) d (length-first hs ns n) p (q ∙ ap (λ (k : ℕ). laid (headOf flags n ++ bodyOf (firstFindings hs ns k)) o) e)

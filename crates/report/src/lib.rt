@@ -1,12 +1,13 @@
 // The report form, version 1: findings written into a lent buffer, and read back.
 ghost use mathlib.Core.Path.{_≡_};
 ghost use Prim.Native.Nat.{_+_, _*_, _<_, _≤_};
-ghost use mathlib.Core.List.{_++_};
+ghost use mathlib.Core.List.{[], _∷_, _++_};
 ghost use lib.ListN.{length, drop, take};
 ghost use Rattle.reading.specs.Lent.{laid};
 ghost use Rattle.rules.specs.Table.{rowOf, inTable, allIn, same};
+ghost use Rattle.rules.specs.Lanes.{firstFindings};
 ghost use Rattle.report.specs.Table.{Limited, inLimits};
-ghost use Rattle.report.specs.Form.{findingBytes, reportOf, restOf, numberIn, findingIn, findingsIn};
+ghost use Rattle.report.specs.Form.{bigEndian, reportOf, restOf, numberIn, findingIn, findingsIn};
 ghost use Rattle.report.specs.Write.{writeSaid, writeOf, writtenOver, fitted, foundOf, lintReportOf, lintReportAfter, flagsOf};
 ghost use Rattle.report.specs.Read.{readSaid, readingSaid, readingOf, readOf, readAfter, readReplied, readRefused, gatheredOf, acceptedOf, Headed};
 use decoders::identity::IdentityAnswer;
@@ -15,6 +16,7 @@ use findings::Finding;
 use findings::Findings;
 use findings::Severity;
 use reading::Refusal;
+use rules::LintAnswer;
 
 // The most that 32 bits hold: a number of any size.
 const ANY: u32 = 4294967295;
@@ -81,11 +83,32 @@ pub fn lint_report(image: &[u8], out: &mut [u8]) -> WriteAnswer
     ensures answer { λ r. ⌜ writeSaid r ≡ lintReportOf (now (image .entry)) (length (now (out .entry))) ⌝ }
     ensures later { λ r. ⌜ now (out .exit) ≡ lintReportAfter (now (image .entry)) (now (out .entry)) ⌝ }
 {
-    let linted = rules::lint_image(image);
-    let identity = linted.identity;
-    let timings = linted.timings;
-    let found = linted.findings;
-    write_fitting(flags_of(identity, timings), found, out)
+    let mut heads = [0u8; 45];
+    let mut numbers = [0u32; 45];
+    match rules::lint_numbers(image, &mut heads, &mut numbers) {
+        LintAnswer::Listed(linted) => {
+            let identity = linted.identity;
+            let timings = linted.timings;
+            let flags = flags_of(identity, timings);
+            write_numbers(flags, &heads, &numbers, linted.count, out)
+        }
+        // Both lists have their forty-five places, so this is never reached.
+        LintAnswer::Refused(why) => WriteAnswer::Refused(why),
+    }
+}
+
+// Writes findings that stand as numbers in two flat lists, where the buffer has room for them.
+fn write_numbers(flags: u8, heads: &[u8], numbers: &[u32], n: usize, out: &mut [u8]) -> WriteAnswer
+    requires { ⌜ (n ≤ 15) × (45 ≤ length (now heads)) × (45 ≤ length (now numbers)) ⌝ }
+    ensures answer { λ r. ⌜ writeSaid r ≡ fitted n (length (now (out .entry))) ⌝ }
+    ensures later { λ r. ⌜ now (out .exit) ≡ writtenOver (fitted n (length (now (out .entry)))) flags (firstFindings (now (heads .entry)) (now (numbers .entry)) n) (now (out .entry)) ⌝ }
+{
+    let size = 3 + 14 * n + 2;
+    if out.len() < size {
+        return WriteAnswer::Refused(Refusal::BufferTooSmall);
+    }
+    put_numbers(flags, heads, numbers, n, out);
+    WriteAnswer::Bytes(size)
 }
 
 // Bit 0: identity decoded. Bit 1: timings decoded.
@@ -368,7 +391,31 @@ fn put_all(flags: u8, found: Findings, out: &mut [u8])
     copy_in(&head, out, 0);
     let mut i: usize = 0;
     while i < n {
-        let b = bytes_of(found.items[i]);
+        let f = found.items[i];
+        let b = bytes_of(f.code, f.sub, f.first, f.second, f.third);
+        copy_in(&b, out, 5 + 14 * i);
+        i += 1;
+    }
+}
+
+// The same of findings that stand as numbers.
+fn put_numbers(flags: u8, heads: &[u8], numbers: &[u32], n: usize, out: &mut [u8])
+    requires { ⌜ (n ≤ 15) × (45 ≤ length (now heads)) × (45 ≤ length (now numbers)) × (restOf n + 2 ≤ length (now out)) ⌝ }
+    ensures { λ _. ⌜ now (out .exit) ≡ laid (reportOf flags (firstFindings (now (heads .entry)) (now (numbers .entry)) n)) (now (out .entry)) ⌝ }
+{
+    let rest = 3 + 14 * n;
+    let head = [(rest / 256) as u8, (rest % 256) as u8, 1, flags, n as u8];
+    copy_in(&head, out, 0);
+    let mut i: usize = 0;
+    while i < n {
+        let k = 3 * i;
+        let b = bytes_of(
+            heads[k],
+            heads[k + 2],
+            numbers[k],
+            numbers[k + 1],
+            numbers[k + 2],
+        );
         copy_in(&b, out, 5 + 14 * i);
         i += 1;
     }
@@ -386,16 +433,13 @@ fn copy_in(src: &[u8], dst: &mut [u8], at: usize)
     }
 }
 
-// The fourteen bytes of a finding.
-fn bytes_of(f: Finding) -> [u8; 14]
-    ensures { λ r. ⌜ r ≡ findingBytes f ⌝ }
+// The fourteen bytes of a finding: code, sub and its three numbers.
+fn bytes_of(code: u8, sub: u8, a: u32, b: u32, c: u32) -> [u8; 14]
+    ensures { λ r. ⌜ r ≡ code ∷ sub ∷ bigEndian «a» (bigEndian «b» (bigEndian «c» [])) ⌝ }
 {
-    let a = f.first;
-    let b = f.second;
-    let c = f.third;
     [
-        f.code,
-        f.sub,
+        code,
+        sub,
         (a / 16777216) as u8,
         (a / 65536 % 256) as u8,
         (a / 256 % 256) as u8,

@@ -139,16 +139,19 @@ module _ (h n : List ℕ) (l : List Finding) where
   first-held zero lt = refl
   first-held (suc k) lt = rw (take-suc l k blankFinding lt, first-held k (omega arith), place-held k lt)
 
+  pub all-first : firstFindings (laid (flat headOf l) h) (laid (flat numbersOf l) n) (length l) ≡ l
+  all-first = rw (first-held (length l) (le-refl (length l)), take-length)
+
   pub records-held : length l ≤ 15 → recordsOf (lanesHolding h n l) ≡ holding l
   unfolding lanesHolding holding
-  records-held few = rw (kept-few (length l) (omega arith), first-held (length l) (le-refl (length l)), take-length)
+  records-held few = rw (kept-few (length l) (omega arith), all-first)
 
 -- a row of answers noted in fresh arrays, as records
 pub whole : {r : Lanes} (xs : List Found) → r ≡ noteAll fresh xs → length (cat xs) ≤ 15 → recordsOf r ≡ holding (cat xs)
 whole xs e few = rw (all-held (replicate 45 0) (replicate 45 0) (le-refl 45) (le-refl 45) xs e few) (records-held (replicate 45 0) (replicate 45 0) (cat xs) few)
 
 -- one record more, in the first blank place
-length-first : (h n : List ℕ) (k : ℕ) → length (firstFindings h n k) ≡ k
+pub length-first : (h n : List ℕ) (k : ℕ) → length (firstFindings h n k) ≡ k
 length-first h n zero = refl
 length-first h n (suc k) = omega (arith, length-first h n k, length-append (firstFindings h n k) (findingIn h n k ∷ []))
 

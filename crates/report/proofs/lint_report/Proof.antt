@@ -1,52 +1,80 @@
--- `report::lint_report` meets its contract: the flags and the findings are those of the image, and fifteen places hold them all.
+-- `report::lint_report` meets its contract: two lists of forty-five zeros have room, so the flags and the findings are those of the image.
 -- Assumes nothing.
 use Prim.Native.Nat.{ℕ, _≤_}
 use mathlib.Core.Path.{_≡_, ap, sym, subst, _∙_}
 use mathlib.Core.List.{List}
+use native.Mathlib.Omega.{arith}
 use borrow.Author.Needs.{needs}
-use lib.ListN.{length, take}
-use Rattle.findings.specs.Hold.{holding}
-use Rattle.findings.proofs.Laws.{list-held}
-use Rattle.rules.specs.Lint.{Lint, lintSaid, lintOf, findingsOf}
-use Rattle.rules.specs.declared.Linted.{Linted}
+use lib.ListN.{length, replicate}
+use Rattle.reading.specs.Said.{Said, gives}
+use Rattle.reading.specs.Lent.{laid}
+use Rattle.findings.specs.declared.Finding.{Finding}
+use Rattle.rules.specs.Lint.{Listing, listingSaid, listingOf, lintAnswerSaid, findingsOf}
+use Rattle.rules.specs.Lanes.{headOf, numbersOf, flat, firstFindings, lintNumbersOf, headsAfter, numbersAfter}
+use Rattle.rules.specs.declared.LintRecords.{LintRecords}
+use Rattle.rules.specs.declared.LintAnswer.{LintAnswer}
+use Rattle.rules.specs.declared.LintAnswer.the-variants as answer
+use Rattle.rules.proofs.Gathered.{all-first}
 use Rattle.rules.proofs.Never.{at-most-fifteen}
 use Rattle.report.specs.Write.{writeSaid, fitted, writtenOver, flagsFor, flagsOf, lintReportOf, lintReportAfter}
 use Rattle.report.specs.declared.WriteAnswer.{WriteAnswer}
 use Rattle.report.proofs.lint_report.Statement.{statement}
 use Rattle.report.proofs.lint_report.Tie as tie
 
-few : (s : List ℕ) (l : Linted) → lintSaid l ≡ lintOf s → l .findings .count ≤ 15
-unfolding holding
-few s l e = subst (λ (t : Lint). t .findings .count ≤ 15) (sym e) (at-most-fifteen s)
+abbrev zeros : List ℕ
+zeros = replicate 45 0
 
-module _ (s out : List ℕ) (l : Linted) (r : WriteAnswer) (e : lintSaid l ≡ lintOf s) where
-  answers : writeSaid r ≡ fitted (l .findings .count) (length out) → writeSaid r ≡ lintReportOf s (length out)
-  unfolding lintReportOf holding
-  answers a = a ∙ ap (λ (t : Lint). fitted (t .findings .count) (length out)) e
+-- what `lint_numbers` says of an image and of two such lists: the lint, never a refusal
+module _ (s : List ℕ) {r : LintAnswer} (says : lintAnswerSaid r ≡ lintNumbersOf s zeros zeros) where
+  listed : (l : LintRecords) → r ≡ answer.Listed l → listingSaid l ≡ listingOf s
+  unfolding lintNumbersOf
+  listed l e = let g : gives (listingSaid l) ≡ gives (listingOf s) = rw e at says in cc
 
-  leaves : {n : ℕ} {zs : List ℕ} → n ≡ flagsOf (l .identity) (l .timings) → zs ≡ writtenOver (fitted (l .findings .count) (length out)) n (take (l .findings .count) (l .findings .items)) out
-      → zs ≡ lintReportAfter s out
-  unfolding lintReportOf lintReportAfter holding
-  leaves f b =
-      b ∙ ap (λ (m : ℕ). writtenOver (fitted (l .findings .count) (length out)) m (take (l .findings .count) (l .findings .items)) out) f
-      ∙ ap (λ (t : Lint). writtenOver (fitted (t .findings .count) (length out)) (flagsFor (t .identity) (t .timings)) (take (t .findings .count) (t .findings .items)) out) e
-      ∙ rw (list-held (findingsOf s))
+  never : {why : _} {P : Type 0} → r ≡ answer.Refused why → P
+  unfolding lintNumbersOf
+  never e = let g = rw e at says in let z : _≡_ {A = ℕ} 0 1 = cc in absurd (omega arith)
+
+module _ (s out : List ℕ) (l : LintRecords) (e : listingSaid l ≡ listingOf s) where
+  few : l .count ≤ 15
+  few = subst (λ (t : Listing). t .count ≤ 15) (sym e) (at-most-fifteen s)
+
+  answers : (w : WriteAnswer) → writeSaid w ≡ fitted (l .count) (length out) → writeSaid w ≡ lintReportOf s (length out)
+  unfolding lintReportOf
+  answers w a = a ∙ ap (λ (t : Listing). fitted (t .count) (length out)) e
+
+  leaves : {f : ℕ} {h n zs : List ℕ} → f ≡ flagsOf (l .identity) (l .timings) → h ≡ headsAfter s zeros zeros → n ≡ numbersAfter s zeros zeros
+      → zs ≡ writtenOver (fitted (l .count) (length out)) f (firstFindings h n (l .count)) out → zs ≡ lintReportAfter s out
+  unfolding lintReportOf lintReportAfter headsAfter numbersAfter
+  leaves {f} {h} {n} p q r b =
+      let k : l .count ≡ length (findingsOf s) = ap (λ (t : Listing). t .count) e in
+      let g : f ≡ flagsFor (listingOf s .identity) (listingOf s .timings) = p ∙ ap (λ (t : Listing). flagsFor (t .identity) (t .timings)) e in
+      let found : firstFindings h n (l .count) ≡ findingsOf s = (λ i. firstFindings (q i) (r i) (k i)) ∙ all-first zeros zeros (findingsOf s) in
+      b ∙ (λ i. writtenOver (fitted (k i) (length out)) (g i) (found i) out)
 
 pub lint-report-spec : {M : Type 1} → statement M
 lint-report-spec =
     tie.close
     (tie.spec
+    (λ c. search needs)
+    (λ c. search needs)
     (λ c κs. search needs)
+    (λ c. search needs)
     (λ c κs. search needs)
+    (λ c. search needs)
+    (λ c. search needs)
     (λ c κs.
-    let l = c .before .before .before in
-    few (l .before .before .before .args .image .now) (l .lint-image .result) (l .lint-image .ensures))
+    let n = c .before .before .before .before .before .before .before .before .before in
+    let l = listed (c .before .before .before .before .before .before .before .before .before .before .before .before .before .before .args .image .now) (n .lint-numbers .ensures .0) (c .before .before .before .before .before .linted .given .0 .0) (c .before .before .before .before .before .linted .given .1) in
+    (few (c .before .before .before .before .before .before .before .before .before .before .before .before .before .before .args .image .now) (c .before .before .before .before .before .before .before .before .before .before .before .before .before .before .args .out .now) (c .before .before .before .before .before .linted .given .0 .0) l, omega (arith, n .lint-numbers .kept .1 .0), omega (arith, n .lint-numbers .kept .1 .1 .0)))
+    (λ c. search needs)
     (λ c. search needs)
     (λ c.
-    let w = c .before .before in
-    let f = w .before .before in
-    let l = f .before .before in
-    let a = l .before .before .before .args in (
-      answers (a .image .now) (a .out .now) (l .lint-image .result) (w .write-fitting .result) (l .lint-image .ensures) (w .write-fitting .ensures .0),
-      leaves (a .image .now) (a .out .now) (l .lint-image .result) (w .write-fitting .result) (l .lint-image .ensures) (f .flags-of .ensures) (w .write-fitting .ensures .1),
-    )))
+    let a = c .before .before .before .before .before .before .before .before .before .before .before .before .before .before .before .before .before .args in
+    let n = c .before .before .before .before .before .before .before .before .before .before .before .before .lint-numbers .ensures in
+    let g = c .before .before .before .before .before .before .before .before .linted .given in
+    let l = listed (a .image .now) (n .0) (g .0 .0) (g .1) in
+    let w = c .before .before .write-numbers in (
+      answers (a .image .now) (a .out .now) (g .0 .0) l (w .result) (w .ensures .0),
+      leaves (a .image .now) (a .out .now) (g .0 .0) l (c .before .before .before .before .before .before .flags-of .ensures) (n .1) (n .2) (w .ensures .1),
+    ))
+    (λ c. never (c .before .before .before .before .before .before .before .before .before .before .args .image .now) (c .before .before .before .before .before .lint-numbers .ensures .0) (c .before .why .given .1)))

@@ -66,14 +66,15 @@ module _ (m : tie.At-match-came) {h n : List ℕ} {k : ℕ} {u : Said Timings} (
   unfolding lintAt identityOf timingsOf lanesHolding
   answered room =
       let held : lanes h n k ≡ lanesHolding (lent m .heads) (lent m .numbers) (lintAt (view (image m))) =
-          all-held (lent m .heads) (lent m .numbers) (room .0) (room .1) (each lintRules (view (image m))) timed (fits (view (image m))) in
-      ((λ i. record {
-        identity = (ap identitySaid (told m) ∙ m .before .decode-identity-and-base .ensures) i;
-        timings = says i;
-        count = held i .count;
-      }),
-      ap (λ (l : Lanes). l .heads) held,
-      ap (λ (l : Lanes). l .numbers) held)
+      all-held (lent m .heads) (lent m .numbers) (room .0) (room .1) (each lintRules (view (image m))) timed (fits (view (image m))) in (
+        (λ i. record {
+          identity = (ap identitySaid (told m) ∙ m .before .decode-identity-and-base .ensures) i;
+          timings = says i;
+          count = held i .count;
+        }),
+        ap (λ (l : Lanes). l .heads) held,
+        ap (λ (l : Lanes). l .numbers) held,
+      )
 
 note-requires : tie.Need-note-requires
 note-requires c κs = search needs
