@@ -42,19 +42,13 @@ pub struct ExpoProfile {
 #[derive(Debug, Clone, Copy, PartialEq, Eq)]
 pub enum Xmp {
     Absent,
-    Present {
-        profile1: Option<XmpProfile>,
-        profile2: Option<XmpProfile>,
-    },
+    Present { profile1: Option<XmpProfile>, profile2: Option<XmpProfile> },
 }
 
 #[derive(Debug, Clone, Copy, PartialEq, Eq)]
 pub enum Expo {
     Absent,
-    Present {
-        profile1: Option<ExpoProfile>,
-        profile2: Option<ExpoProfile>,
-    },
+    Present { profile1: Option<ExpoProfile>, profile2: Option<ExpoProfile> },
 }
 
 #[derive(Debug, Clone, Copy, PartialEq, Eq)]
@@ -66,10 +60,7 @@ pub struct VendorProfiles {
 /// The profile of a marked image stands as the first XMP profile: the linter treats all four places alike.
 pub fn decode_xmp(bytes: &[u8]) -> Result<Xmp, DecodeError> {
     Ok(match marked_profile(bytes) {
-        Some(rated) => Xmp::Present {
-            profile1: Some(XmpProfile { rated }),
-            profile2: None,
-        },
+        Some(rated) => Xmp::Present { profile1: Some(XmpProfile { rated }), profile2: None },
         None => Xmp::Absent,
     })
 }
@@ -80,10 +71,7 @@ pub fn decode_expo(_bytes: &[u8]) -> Result<Expo, DecodeError> {
 }
 
 pub fn decode_vendor_profiles(bytes: &[u8]) -> Result<VendorProfiles, DecodeError> {
-    Ok(VendorProfiles {
-        xmp: decode_xmp(bytes)?,
-        expo: decode_expo(bytes)?,
-    })
+    Ok(VendorProfiles { xmp: decode_xmp(bytes)?, expo: decode_expo(bytes)? })
 }
 
 /// The rated profile of a marked image; none without the mark or with a block that is cut off.

@@ -1,0 +1,404 @@
+//! One image, asked of both sides: every number of both records, the refusals with what they carry, the CAS list, and every
+//! finding in order. Our answers come from the C library; the Rust's are put into document 01's numbers here.
+//!
+//! The report form has no severity, so the Rust's severity of each finding is held against document 01's for its code. The
+//! severities as Roostcord itself answers them are compared by the program `replay`. The clock table, which the Rust does not
+//! have, is held against document 01's definition of it over the Rust's times.
+
+use crate::images::Rng;
+use crate::ours;
+use spdr::{
+    ClockTimingParam, DecodeError, DeviceType, Finding, IdentityAndBase, ModuleType, PackageType, Severity, TimingOrder, Timings,
+};
+
+const IDENTITY_BYTES: usize = 236;
+/// What lent lists hold before a call. A refused call must leave it.
+const STAY: u8 = 0xA5;
+
+/// How an image compared: alike, or by a row of docs/DIFFERENCES.md, which is then checked to be that row.
+#[derive(Clone, Copy, PartialEq)]
+pub enum Verdict {
+    Same,
+    ShortImage,
+    OtherType,
+}
+
+/// Everything the library says of one image.
+#[derive(PartialEq)]
+pub struct Answers {
+    words: [i32; 5],
+    report: [u8; ours::REPORT_MAX],
+    identity: [u32; 18],
+    timings: [u32; 30],
+    cas: [u16; 40],
+    clocks: [u32; 9],
+}
+
+type Question<T> = fn(&[u8], &mut [T]) -> i32;
+
+impl Answers {
+    pub fn of_image(image: &[u8]) -> Self {
+        Self::of(image, ours::lint, (ours::identity, ours::timings, ours::clocks), ours::cas_latencies)
+    }
+
+    fn of_state(state: &[u8]) -> Self {
+        let lists = (ours::pieces_identity as _, ours::pieces_timings as _, ours::pieces_clocks as _);
+        Self::of(state, ours::pieces_lint, lists, ours::pieces_cas_latencies)
+    }
+
+    #[inline(always)]
+    fn of(
+        from: &[u8],
+        lint: Question<u8>,
+        (identity, timings, clocks): (Question<u32>, Question<u32>, Question<u32>),
+        cas: Question<u16>,
+    ) -> Self {
+        let mut a = Answers {
+            words: [0; 5],
+            report: [STAY; ours::REPORT_MAX],
+            identity: [STAY.into(); 18],
+            timings: [STAY.into(); 30],
+            cas: [STAY.into(); 40],
+            clocks: [STAY.into(); 9],
+        };
+        a.words = [
+            lint(from, &mut a.report),
+            identity(from, &mut a.identity),
+            timings(from, &mut a.timings),
+            cas(from, &mut a.cas),
+            clocks(from, &mut a.clocks),
+        ];
+        a
+    }
+}
+
+/// An answer of the C library that is a refusal.
+const fn refusal(number: i32, first: i32, second: i32) -> i32 {
+    -(number + 256 * first + (second << 20))
+}
+
+/// Compares one image; the text of an error is the first item that differs.
+pub fn compare(image: &[u8], ours: &Answers) -> Result<Verdict, String> {
+    let rust = spdr::decode_identity_and_base(image);
+    let (verdict, identity) = expected_identity(image, &rust);
+    let timings = spdr::decode_timings(image);
+    list("identity", ours.words[1], &ours.identity, identity.as_ref().map(|l| &l[..]).map_err(|&word| word))?;
+    compare_timings(ours, &timings)?;
+    let flags = u8::from(identity.is_ok()) + 2 * u8::from(timings.is_ok());
+    compare_findings(image, ours, flags, verdict)?;
+    Ok(verdict)
+}
+
+/// An answer and a lent list against the numbers that belong there or the refusal word.
+fn list<T: PartialEq + Copy + From<u8> + std::fmt::Display>(
+    what: &str,
+    word: i32,
+    ours: &[T],
+    rust: Result<&[T], i32>,
+) -> Result<(), String> {
+    let numbers = rust.unwrap_or(&[]);
+    let answer = rust.map_or_else(|word| word, |l| l.len() as i32);
+    if word != answer {
+        return Err(format!("{what}: answer {word}, the Rust's would be {answer}"));
+    }
+    let rest = ours.len() - numbers.len();
+    let theirs = numbers.iter().copied().chain(std::iter::repeat_n(T::from(STAY), rest));
+    match ours.iter().zip(theirs).position(|(a, b)| *a != b) {
+        None => Ok(()),
+        Some(i) if i < numbers.len() => Err(format!("{what}: number {i} is {}, the Rust's {}", ours[i], numbers[i])),
+        Some(i) => Err(format!("{what}: number {i} was written")),
+    }
+}
+
+/// What document 01 makes of the Rust's identity. Two rows of docs/DIFFERENCES.md are told apart here.
+fn expected_identity(image: &[u8], rust: &Result<IdentityAndBase, DecodeError>) -> (Verdict, Result<[u32; 18], i32>) {
+    match rust {
+        Err(DecodeError::UnknownEnum { .. }) if image.len() < IDENTITY_BYTES => (Verdict::ShortImage, Err(refusal(1, 0, 0))),
+        Err(DecodeError::UnknownEnum { field: "SPD device size", value }) => (Verdict::Same, Err(refusal(3, 1, (*value).into()))),
+        _ if image.len() >= IDENTITY_BYTES && matches!(image[2], 0x0B | 0x0C | 0x13) => {
+            (Verdict::OtherType, Err(refusal(2, image[2].into(), 0)))
+        }
+        Ok(d) => (Verdict::Same, Ok(identity_numbers(d))),
+        Err(e) => (Verdict::Same, Err(decode_error(*e))),
+    }
+}
+
+fn decode_error(e: DecodeError) -> i32 {
+    let field = match e {
+        DecodeError::Truncated { .. } => return refusal(1, 0, 0),
+        DecodeError::UnknownEnum { field, value } => (field, i32::from(value)),
+        _ => return refusal(255, 0, 0),
+    };
+    let number = match field.0 {
+        "DRAM device type" => return refusal(2, field.1, 0),
+        "SPD device size" => 1,
+        "module type" => 2,
+        "SDRAM density per die" => 3,
+        "SDRAM package type" => 4,
+        "SDRAM I/O width" => 5,
+        "bank groups" => 6,
+        "banks per bank group" => 7,
+        "primary bus width" => 8,
+        "channels per DIMM" => 9,
+        _ => return refusal(255, 0, 0),
+    };
+    refusal(3, number, field.1)
+}
+
+fn identity_numbers(d: &IdentityAndBase) -> [u32; 18] {
+    [
+        d.spd_bytes_total.into(),
+        d.spd_revision.major.into(),
+        d.spd_revision.minor.into(),
+        device_code(d.device_type),
+        module_code(d.module_type),
+        d.hybrid.into(),
+        d.density_per_die.gigabits().into(),
+        package_code(d.package_type),
+        d.die_count.into(),
+        d.row_address_bits.into(),
+        d.column_address_bits.into(),
+        d.io_width.bits().into(),
+        d.bank_groups.count().into(),
+        d.banks_per_bank_group.count().into(),
+        d.package_ranks_per_channel.into(),
+        d.rank_mix_asymmetric.into(),
+        d.channels_per_dimm.into(),
+        d.primary_bus_width_bits.into(),
+    ]
+}
+
+fn device_code(device: DeviceType) -> u32 {
+    match device {
+        DeviceType::Ddr3 => 0x0B,
+        DeviceType::Ddr4 => 0x0C,
+        DeviceType::Ddr5 => 0x12,
+        DeviceType::Lpddr5 => 0x13,
+    }
+}
+
+fn module_code(module: ModuleType) -> u32 {
+    match module {
+        ModuleType::Rdimm => 1,
+        ModuleType::Udimm => 2,
+        ModuleType::Sodimm => 3,
+        ModuleType::Lrdimm => 4,
+        ModuleType::Cudimm => 5,
+        ModuleType::Csoudimm => 6,
+        ModuleType::Mrdimm => 7,
+        ModuleType::Camm2 => 8,
+        ModuleType::Ddimm => 10,
+        ModuleType::SolderDown => 11,
+    }
+}
+
+fn package_code(package: PackageType) -> u32 {
+    match package {
+        PackageType::Monolithic => 1,
+        PackageType::DualDie => 2,
+        PackageType::ThreeDs => 3,
+    }
+}
+
+fn compare_timings(ours: &Answers, rust: &Result<Timings, DecodeError>) -> Result<(), String> {
+    let t = match rust {
+        Ok(t) => t,
+        Err(e) => {
+            let word = decode_error(*e);
+            list("timings", ours.words[2], &ours.timings, Err(word))?;
+            list("CAS list", ours.words[3], &ours.cas, Err(word))?;
+            return list("clock table", ours.words[4], &ours.clocks, Err(word));
+        }
+    };
+    list("timings", ours.words[2], &ours.timings, Ok(&timing_numbers(t)))?;
+    let mut cas = [0; 40];
+    let mut n = 0;
+    for cl in t.supported_cas_latencies.iter() {
+        cas[n] = cl;
+        n += 1;
+    }
+    list("CAS list", ours.words[3], &ours.cas, Ok(&cas[..n]))?;
+    let clocks = clock_table(t);
+    list("clock table", ours.words[4], &ours.clocks, clocks.as_ref().map(|l| &l[..]).map_err(|&word| word))
+}
+
+fn timing_numbers(t: &Timings) -> [u32; 30] {
+    // The Rust keeps its mask to itself; it is made again of what it says is in the set.
+    let mask = (0..40).fold(0u64, |mask, k| mask | u64::from(t.supported_cas_latencies.contains(20 + 2 * k)) << k);
+    let mut out = [0; 30];
+    out[0] = t.tckavg_min.0;
+    out[1] = t.tckavg_max.0;
+    out[2] = mask as u32;
+    out[3] = (mask >> 32) as u32;
+    let times = [t.taa, t.trcd, t.trp, t.tras, t.trc, t.twr, t.trfc1, t.trfc2, t.trfcsb];
+    for (place, time) in out[4..13].iter_mut().zip(times) {
+        *place = time.0;
+    }
+    let pairs = [t.trrd_l, t.tccd_l, t.tccd_l_wr, t.tccd_l_wr2, t.tfaw, t.twtr_l, t.twtr_s, t.trtp];
+    for (place, pair) in out[13..29].chunks_mut(2).zip(pairs) {
+        place[0] = pair.time.0;
+        place[1] = pair.clocks.0.into();
+    }
+    out[29] = t.base_data_rate_mt_s();
+    out
+}
+
+/// Document 01: the smallest whole n with n * tCK at or above the time, refused 7 with tCK 0.
+fn clock_table(t: &Timings) -> Result<[u32; 9], i32> {
+    let tck = t.tckavg_min.0;
+    if tck == 0 {
+        return Err(refusal(7, 0, 0));
+    }
+    let times = [t.taa, t.trcd, t.trp, t.tras, t.trc, t.twr, t.trfc1, t.trfc2, t.trfcsb];
+    Ok(times.map(|time| time.0.div_ceil(tck)))
+}
+
+/// A finding in document 01's report form: code, sub, three numbers.
+type Row = [u32; 5];
+
+/// Document 01's severity of each code; none has code 0.
+const SEVERITIES: [Option<Severity>; 10] = [
+    None,
+    Some(Severity::Error),
+    Some(Severity::Error),
+    Some(Severity::Error),
+    Some(Severity::Warning),
+    Some(Severity::Error),
+    Some(Severity::Warning),
+    Some(Severity::Info),
+    Some(Severity::Warning),
+    Some(Severity::Error),
+];
+
+fn row(f: &Finding) -> Row {
+    match *f {
+        Finding::NonIntegerDeviceCount { bus_width_bits, io_width_bits } => {
+            [1, 0, bus_width_bits.into(), io_width_bits.into(), 0]
+        }
+        Finding::TrcIdentityMismatch { trc_ps, tras_ps, trp_ps } => [2, 0, trc_ps, tras_ps, trp_ps],
+        Finding::TimingOrderingViolation { relation, larger_ps, smaller_ps } => {
+            let sub = match relation {
+                TimingOrder::RasGeRcd => 1,
+                TimingOrder::RcGeRas => 2,
+            };
+            [3, sub, larger_ps, smaller_ps, 0]
+        }
+        Finding::NonIntegerCasLatency { taa_ps, tck_ps } => [4, 0, taa_ps, tck_ps, 0],
+        Finding::CasLatencyNotSupported { cas_latency } => [5, 0, cas_latency.into(), 0, 0],
+        Finding::NonIntegerClockTiming { param, value_ps, tck_ps } => {
+            let sub = match param {
+                ClockTimingParam::Trcd => 1,
+                ClockTimingParam::Trp => 2,
+            };
+            [6, sub, value_ps, tck_ps, 0]
+        }
+        Finding::NonStandardDataRate { data_rate_mt_s } => [7, 0, data_rate_mt_s, 0, 0],
+        Finding::ReservedBytesNonZero { offset, value } => [8, 0, offset as u32, value.into(), 0],
+        Finding::PackageDieCountMismatch { package_type, die_count } => [9, package_code(package_type), die_count.into(), 0, 0],
+        _ => [0; 5],
+    }
+}
+
+/// The findings and flags of a written report, read by document 01's form.
+fn parsed(word: i32, report: &[u8]) -> Result<(u8, Vec<Row>), String> {
+    let bytes = usize::try_from(word).ok().and_then(|n| report.get(..n)).ok_or(format!("report: answer {word}"))?;
+    let form = match bytes {
+        [high, low, 1, flags, count, rows @ ..] => Some((256 * usize::from(*high) + usize::from(*low), *flags, *count, rows)),
+        _ => None,
+    };
+    let (length, flags, count, rows) = form.ok_or("report: no report of version 1")?;
+    if length + 2 != bytes.len() || rows.len() != 14 * usize::from(count) {
+        return Err(format!("report: length {length} and {count} findings in {} bytes", bytes.len()));
+    }
+    if report[bytes.len()..].iter().any(|&b| b != STAY) {
+        return Err("report: bytes behind it were written".into());
+    }
+    let number = |four: &[u8]| four.iter().fold(0, |n, &b| 256 * n + u32::from(b));
+    let findings = rows.chunks(14).map(|r| [r[0].into(), r[1].into(), number(&r[2..6]), number(&r[6..10]), number(&r[10..14])]);
+    Ok((flags, findings.collect()))
+}
+
+fn compare_findings(image: &[u8], ours: &Answers, flags: u8, verdict: Verdict) -> Result<(), String> {
+    let mut rust: Vec<Row> = Vec::with_capacity(16);
+    let mut severe = Ok(());
+    spdr::lint(image, &mut |f: Finding| {
+        let row = row(&f);
+        if SEVERITIES[row[0] as usize] != Some(f.severity()) {
+            severe = Err(format!("finding {}: the Rust's severity is {:?}", rust.len(), f.severity()));
+        }
+        // Where Roostcord refuses another device type, it has no identity to apply these two rules to.
+        if verdict != Verdict::OtherType || !matches!(row[0], 1 | 9) {
+            rust.push(row);
+        }
+    });
+    severe?;
+    let (got, findings) = parsed(ours.words[0], &ours.report)?;
+    if got != flags {
+        return Err(format!("report: flags {got}, the Rust's would be {flags}"));
+    }
+    if findings != rust {
+        let i = findings.iter().zip(&rust).take_while(|(a, b)| a == b).count();
+        return Err(format!("finding {i}: {:?}, the Rust's {:?}", findings.get(i), rust.get(i)));
+    }
+    Ok(())
+}
+
+/// How an image is cut into pieces.
+#[derive(Clone, Copy)]
+pub enum Cut {
+    Whole,
+    Random,
+    /// A first piece, then pieces of sixteen bytes.
+    Bursts(usize),
+}
+
+/// Feeds an image in pieces. Each piece is also sent too early and, once taken, a second time; both must be refused 5 with the
+/// count and change nothing. In the end every answer must be that for the whole image.
+pub fn feed(image: &[u8], cut: Cut, rng: &mut Rng, whole: &Answers) -> Result<(), String> {
+    let mut state = [STAY; ours::STATE_SIZE];
+    expect("fresh", 0, ours::pieces_fresh(&mut state), 0)?;
+    let mut at = 0;
+    let mut first = true;
+    while at < image.len() {
+        let size = match cut {
+            Cut::Whole => image.len(),
+            Cut::Bursts(n) if first => n,
+            Cut::Bursts(_) => 16,
+            Cut::Random => rng.pick(&[0, 1, 2, 7, 16, 16, 64, 200, 500]).min(rng.below(1000)),
+        };
+        first = false;
+        let end = image.len().min(at + size);
+        let piece = &image[at..end];
+        if size != 0 {
+            let before = state;
+            expect("a piece too early", at, ours::pieces_feed(&mut state, at + size, piece), refusal(5, at as i32, 0))?;
+            unchanged(&before, &state, at)?;
+        }
+        expect("a piece", at, ours::pieces_feed(&mut state, at, piece), end as i32)?;
+        if end != at {
+            let before = state;
+            expect("a piece twice", at, ours::pieces_feed(&mut state, at, piece), refusal(5, end as i32, 0))?;
+            unchanged(&before, &state, at)?;
+        }
+        at = end;
+    }
+    full(&mut state, at)?;
+    expect("the count taken", at, ours::pieces_taken(&state), at as i32)?;
+    if Answers::of_state(&state) == *whole { Ok(()) } else { Err("pieces: an answer is not that for the whole image".into()) }
+}
+
+/// One byte more than there is room for is refused 6.
+fn full(state: &mut [u8; ours::STATE_SIZE], taken: usize) -> Result<(), String> {
+    let zeros = [0; ours::IMAGE_MAX + 1];
+    let before = *state;
+    expect("too long a piece", taken, ours::pieces_feed(state, taken, &zeros[taken..]), refusal(6, 0, 0))?;
+    unchanged(&before, state, taken)
+}
+
+fn expect(what: &str, at: usize, word: i32, wanted: i32) -> Result<(), String> {
+    if word == wanted { Ok(()) } else { Err(format!("pieces: {what} at byte {at}: answer {word}, should be {wanted}")) }
+}
+
+fn unchanged(before: &[u8], after: &[u8], at: usize) -> Result<(), String> {
+    if before == after { Ok(()) } else { Err(format!("pieces: a refused piece at byte {at} changed the state")) }
+}

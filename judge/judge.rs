@@ -1,0 +1,381 @@
+//! The Rust linter spdr as judge of Roostcord: both are asked of the same images, and every difference that docs/DIFFERENCES.md
+//! does not list is a fault. Usage: judge IMAGES [SEED]. Fixed families run first, then random images until there are so many.
+//! Progress and differences go to stderr, one line of figures to stdout; exit status 1 on a difference.
+
+mod compare;
+mod images;
+mod ours;
+
+use compare::{Answers, Cut, Verdict};
+use images::{CYCLE_TIMES, MODULES, PROFILES, RESERVED, Rng, TIME_OFFSETS, put_cas, put16, sound_images};
+use std::io::IsTerminal;
+use std::process::ExitCode;
+use std::time::{Duration, Instant};
+
+const PRINTED: u64 = 20;
+
+/// The run: what was seen, and where it stands.
+struct Judge {
+    seed: u64,
+    images: u64,
+    wanted: u64,
+    fed: u64,
+    short: u64,
+    other: u64,
+    differences: u64,
+    family: &'static str,
+    family_start: u64,
+    started: Instant,
+    shown: Instant,
+}
+
+impl Judge {
+    fn new(wanted: u64, seed: u64) -> Self {
+        let now = Instant::now();
+        Judge {
+            seed,
+            images: 0,
+            wanted,
+            fed: 0,
+            short: 0,
+            other: 0,
+            differences: 0,
+            family: "",
+            family_start: 0,
+            started: now,
+            shown: now,
+        }
+    }
+
+    /// Runs one family and prints its count.
+    fn family(&mut self, name: &'static str, run: fn(&mut Judge)) {
+        self.family = name;
+        self.family_start = self.images;
+        run(self);
+        self.clear();
+        eprintln!("judge: {name}: {} images", self.images - self.family_start);
+    }
+
+    /// Judges one image, one in eight of them in random pieces as well.
+    fn see(&mut self, image: &[u8]) {
+        let cut = if self.images.is_multiple_of(8) { Some(Cut::Random) } else { None };
+        self.see_cut(image, cut);
+    }
+
+    fn see_cut(&mut self, image: &[u8], cut: Option<Cut>) {
+        debug_assert!(image.iter().skip(PROFILES).all(|&b| b == 0));
+        let ours = Answers::of_image(image);
+        match compare::compare(image, &ours) {
+            Ok(Verdict::Same) => {}
+            Ok(Verdict::ShortImage) => self.short += 1,
+            Ok(Verdict::OtherType) => self.other += 1,
+            Err(item) => self.difference(image, &item),
+        }
+        if let Some(cut) = cut
+            && image.len() <= ours::IMAGE_MAX
+        {
+            self.fed += 1;
+            let mut rng = Rng::new(!self.seed, self.images);
+            if let Err(item) = compare::feed(image, cut, &mut rng, &ours) {
+                self.difference(image, &item);
+            }
+        }
+        self.images += 1;
+        if self.images.is_multiple_of(1024) {
+            self.progress();
+        }
+    }
+
+    fn difference(&mut self, image: &[u8], item: &str) {
+        self.differences += 1;
+        if self.differences <= PRINTED {
+            self.clear();
+            let index = self.images - self.family_start;
+            eprintln!("judge: DIFFERENCE: {} {index}, seed {}, {} bytes: {item}", self.family, self.seed, image.len());
+        }
+    }
+
+    /// On a terminal one line that is updated, elsewhere a line now and then.
+    fn progress(&mut self) {
+        let terminal = std::io::stderr().is_terminal();
+        if self.shown.elapsed() < Duration::from_secs(if terminal { 1 } else { 20 }) {
+            return;
+        }
+        self.shown = Instant::now();
+        let end = if terminal { "\r" } else { "\n" };
+        eprint!("judge: {}: {} of {} images, {} differences{end}", self.family, self.images, self.wanted, self.differences);
+    }
+
+    fn clear(&self) {
+        if std::io::stderr().is_terminal() {
+            eprint!("\x1b[2K\r");
+        }
+    }
+}
+
+/// What every family is made from must decode and be without a finding, or nothing would be tried at the edge of it.
+fn bases() -> Vec<[u8; PROFILES]> {
+    let all = sound_images();
+    for image in &all {
+        let mut findings = 0;
+        spdr::lint(image, &mut |_| findings += 1);
+        assert!(spdr::decode_identity_and_base(image).is_ok() && findings == 0, "a base is not sound");
+    }
+    all
+}
+
+/// All values of each byte that identity reads, on every base, long enough by much, just, and not.
+fn codes(judge: &mut Judge) {
+    for base in bases() {
+        for offset in [0, 1, 2, 3, 4, 5, 6, 7, 234, 235] {
+            for value in 0..=255 {
+                let mut image = base;
+                image[offset] = value;
+                for len in [512, 236, 235] {
+                    judge.see(&image[..len]);
+                }
+            }
+        }
+    }
+}
+
+/// All values of I/O width and bus width together: the device count.
+fn device_counts(judge: &mut Judge) {
+    let mut image = bases()[0];
+    for width in 0..=255 {
+        for bus in 0..=255 {
+            image[6] = width;
+            image[235] = bus;
+            judge.see(&image[..512]);
+        }
+    }
+}
+
+/// All lengths up to the most that pieces take, and some past it.
+fn lengths(judge: &mut Judge) {
+    for base in bases() {
+        let mut image = vec![0; 70_000];
+        image[..PROFILES].copy_from_slice(&base);
+        for len in (0..=ours::IMAGE_MAX).chain([2_049, 4_095, 4_096, 65_535, 65_536, 65_537]) {
+            judge.see(&image[..len]);
+        }
+    }
+}
+
+/// Every reserved byte alone, cut around the ends of its region and around itself.
+fn reserved_bytes(judge: &mut Judge) {
+    let base = bases()[0];
+    for (start, len) in RESERVED {
+        for offset in start..start + len {
+            for value in [1, 0x10, 0x80, 0xFF] {
+                let mut image = base;
+                image[offset] = value;
+                for edge in [start, offset, start + len] {
+                    for cut in [edge - 1, edge, edge + 1] {
+                        judge.see(&image[..cut]);
+                    }
+                }
+                judge.see(&image[..512]);
+            }
+        }
+    }
+}
+
+/// Two bytes of one region: the first is to be named.
+fn reserved_pairs(judge: &mut Judge) {
+    let base = bases()[1];
+    for (start, len) in RESERVED {
+        for one in start..start + len {
+            for two in one + 1..start + len {
+                let mut image = base;
+                image[one] = 3;
+                image[two] = 5;
+                judge.see(&image[..512]);
+            }
+        }
+    }
+}
+
+/// Each cycle time against all pairs of edge values of two times.
+fn cycle_times(judge: &mut Judge) {
+    for (i, tck) in CYCLE_TIMES.into_iter().enumerate() {
+        let mut base = bases()[i % MODULES.len()];
+        put16(&mut base, 20, tck);
+        let edges = images::edges(tck);
+        for (k, one) in TIME_OFFSETS.into_iter().enumerate() {
+            for two in TIME_OFFSETS.into_iter().skip(k + 1) {
+                for &a in &edges {
+                    for &b in &edges {
+                        let mut image = base;
+                        put16(&mut image, one, a);
+                        put16(&mut image, two, b);
+                        judge.see(&image[..512]);
+                    }
+                }
+            }
+        }
+    }
+}
+
+/// Every cycle time there is (the data rate, the ladder), and every tAA (the CAS latency).
+fn every_time(judge: &mut Judge) {
+    for offset in [20, 30] {
+        let mut image = bases()[0];
+        for time in 0..=65_535 {
+            put16(&mut image, offset, time);
+            judge.see(&image[..512]);
+        }
+    }
+}
+
+/// Each bit of the CAS set alone against each CAS latency that a time of 16 bits can have at this cycle time.
+fn cas_bits(judge: &mut Judge) {
+    let mut image = bases()[0];
+    for bit in 0..40 {
+        put_cas(&mut image, 1 << bit);
+        for cl in 0..=65_535 / 416 {
+            put16(&mut image, 30, cl * 416);
+            judge.see(&image[..512]);
+        }
+    }
+}
+
+/// The burst of sixteen bytes at an offset comes twice, not at all, or after its neighbour.
+fn burst(image: &[u8], at: usize, kind: usize) -> Vec<u8> {
+    let (one, two) = (at + 16, image.len().min(at + 32));
+    match kind {
+        0 => [&image[..one], &image[at..]].concat(),
+        1 => [&image[..at], &image[one..]].concat(),
+        2 => [&image[..at], &image[one..two], &image[at..one], &image[two..]].concat(),
+        _ => [&image[..one], &image[at..image.len() - 16]].concat(),
+    }
+}
+
+/// Bursts at every byte offset (so at every sixteenth too), whole and in pieces that are cut where the burst is.
+fn bursts(judge: &mut Judge) {
+    for base in &bases()[..4] {
+        for at in 0..=512 - 16 {
+            for kind in 0..4 {
+                let image = burst(&base[..512], at, kind);
+                judge.see_cut(&image, Some(Cut::Bursts(at % 16)));
+            }
+        }
+        judge.see_cut(&base[..512], Some(Cut::Whole));
+    }
+}
+
+/// Lengths at which something changes.
+const BOUNDARIES: [usize; 14] = [0, 16, 30, 94, 128, 192, 230, 236, 240, 510, 512, 640, 1024, 2048];
+
+fn some_length(rng: &mut Rng) -> usize {
+    match rng.below(8) {
+        0..4 => 512,
+        4..6 => (rng.pick(&BOUNDARIES) + rng.below(5)).saturating_sub(2),
+        6 => 236 + rng.below(405),
+        _ => rng.below(ours::IMAGE_MAX + 1),
+    }
+}
+
+/// A sound image with up to twelve changes.
+fn damaged(rng: &mut Rng, image: &mut [u8]) {
+    for _ in 0..1 + rng.below(12) {
+        match rng.below(3) {
+            0 => images::damage_time(image, rng),
+            _ => images::damage(image, rng),
+        }
+    }
+}
+
+/// A place in the full product of cycle times and the edge values of all five times.
+fn product(rng: &mut Rng, image: &mut [u8]) {
+    let tck = rng.pick(&CYCLE_TIMES);
+    put16(image, 20, tck);
+    let edges = images::edges(tck);
+    for offset in TIME_OFFSETS {
+        put16(image, offset, rng.pick(&edges));
+    }
+    if rng.below(2) == 0 {
+        // tRC near tRAS + tRP, as it would be by chance too seldom
+        let sum = u16::from_le_bytes([image[34], image[35]]).wrapping_add(u16::from_le_bytes([image[36], image[37]]));
+        put16(image, 38, sum.wrapping_add(rng.below(3) as u16).wrapping_sub(1));
+    }
+    match rng.below(4) {
+        0 => put_cas(image, u64::MAX),
+        1 => put_cas(image, rng.next()),
+        _ => {}
+    }
+}
+
+/// Bytes without a plan, of which half have codes that decode.
+fn noise(rng: &mut Rng, image: &mut [u8]) {
+    let keep = rng.below(2) == 0;
+    for (i, byte) in image.iter_mut().enumerate() {
+        let fixed = if keep { i < 8 || i == 234 || i == 235 } else { i == 2 };
+        if !fixed {
+            *byte = rng.byte();
+        }
+    }
+}
+
+/// Random images, each made of the seed and its number.
+fn random(judge: &mut Judge) {
+    let bases = bases();
+    let mut image = vec![0; ours::IMAGE_MAX + 8];
+    for number in 0.. {
+        if judge.images >= judge.wanted {
+            return;
+        }
+        let mut rng = Rng::new(judge.seed, number);
+        image.fill(0);
+        image[..PROFILES].copy_from_slice(&rng.pick(&bases));
+        let len = some_length(&mut rng);
+        let known = &mut image[..PROFILES];
+        match rng.below(16) {
+            0..9 => damaged(&mut rng, known),
+            9..13 => product(&mut rng, known),
+            13 => noise(&mut rng, known),
+            _ => {
+                let bent = burst(known, rng.below(PROFILES - 32), 2 * rng.below(2) + 1);
+                known[..bent.len()].copy_from_slice(&bent);
+            }
+        }
+        judge.see(&image[..len]);
+    }
+}
+
+fn arguments() -> Option<(u64, u64)> {
+    let mut args = std::env::args().skip(1);
+    let wanted = args.next()?.parse().ok()?;
+    let seed = args.next().map_or(Some(1), |s| s.parse().ok())?;
+    if args.next().is_some() { None } else { Some((wanted, seed)) }
+}
+
+fn main() -> ExitCode {
+    let Some((wanted, seed)) = arguments() else {
+        eprintln!("usage: judge IMAGES [SEED]");
+        return ExitCode::from(2);
+    };
+    let mut judge = Judge::new(wanted, seed);
+    judge.family("codes", codes);
+    judge.family("device counts", device_counts);
+    judge.family("lengths", lengths);
+    judge.family("reserved bytes", reserved_bytes);
+    judge.family("reserved pairs", reserved_pairs);
+    judge.family("cycle times", cycle_times);
+    judge.family("every time", every_time);
+    judge.family("CAS bits", cas_bits);
+    judge.family("bursts", bursts);
+    judge.family("random", random);
+    println!(
+        "judge: {} images, {} of them in pieces too, {} listed (row 1, short images), {} listed (row 2, other device types), \
+         {} differences, seed {}, {} s",
+        judge.images,
+        judge.fed,
+        judge.short,
+        judge.other,
+        judge.differences,
+        judge.seed,
+        judge.started.elapsed().as_secs()
+    );
+    if judge.differences == 0 { ExitCode::SUCCESS } else { ExitCode::FAILURE }
+}

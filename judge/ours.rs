@@ -1,0 +1,66 @@
+//! The C library as its header, station/roostcord.h, declares it. A lent slice crosses as its pointer and its length, and
+//! the safe calls below hand over exactly that, so the borrow checker keeps what the header asks of a caller.
+
+pub const REPORT_MAX: usize = 215;
+pub const STATE_SIZE: usize = 512;
+pub const IMAGE_MAX: usize = 2048;
+
+mod c {
+    unsafe extern "C" {
+        pub fn roostcord_lint(image: *const u8, n: usize, report: *mut u8, room: usize) -> i32;
+        pub fn roostcord_identity(image: *const u8, n: usize, out: *mut u32, room: usize) -> i32;
+        pub fn roostcord_timings(image: *const u8, n: usize, out: *mut u32, room: usize) -> i32;
+        pub fn roostcord_cas_latencies(image: *const u8, n: usize, out: *mut u16, room: usize) -> i32;
+        pub fn roostcord_clocks(image: *const u8, n: usize, out: *mut u32, room: usize) -> i32;
+        pub fn roostcord_pieces_fresh(state: *mut u8, n: usize) -> i32;
+        pub fn roostcord_pieces_feed(state: *mut u8, n: usize, offset: usize, piece: *const u8, piece_len: usize) -> i32;
+        pub fn roostcord_pieces_taken(state: *const u8, n: usize) -> i32;
+        pub fn roostcord_pieces_lint(state: *const u8, n: usize, report: *mut u8, room: usize) -> i32;
+        pub fn roostcord_pieces_identity(state: *const u8, n: usize, out: *mut u32, room: usize) -> i32;
+        pub fn roostcord_pieces_timings(state: *const u8, n: usize, out: *mut u32, room: usize) -> i32;
+        pub fn roostcord_pieces_cas_latencies(state: *const u8, n: usize, out: *mut u16, room: usize) -> i32;
+        pub fn roostcord_pieces_clocks(state: *const u8, n: usize, out: *mut u32, room: usize) -> i32;
+    }
+}
+
+/// A question: a slice that is read, and a slice that is filled.
+macro_rules! questions {
+    ($($name:ident = $symbol:ident($out:ty);)*) => {$(
+        #[inline(always)]
+        pub fn $name(from: &[u8], out: &mut [$out]) -> i32 {
+            // SAFETY: both slices are valid for their lengths, aligned, and the second is borrowed alone.
+            unsafe { c::$symbol(from.as_ptr(), from.len(), out.as_mut_ptr(), out.len()) }
+        }
+    )*};
+}
+
+questions! {
+    lint = roostcord_lint(u8);
+    identity = roostcord_identity(u32);
+    timings = roostcord_timings(u32);
+    cas_latencies = roostcord_cas_latencies(u16);
+    clocks = roostcord_clocks(u32);
+    pieces_lint = roostcord_pieces_lint(u8);
+    pieces_identity = roostcord_pieces_identity(u32);
+    pieces_timings = roostcord_pieces_timings(u32);
+    pieces_cas_latencies = roostcord_pieces_cas_latencies(u16);
+    pieces_clocks = roostcord_pieces_clocks(u32);
+}
+
+#[inline(always)]
+pub fn pieces_fresh(state: &mut [u8]) -> i32 {
+    // SAFETY: the slice is valid for its length and borrowed alone.
+    unsafe { c::roostcord_pieces_fresh(state.as_mut_ptr(), state.len()) }
+}
+
+#[inline(always)]
+pub fn pieces_feed(state: &mut [u8], offset: usize, piece: &[u8]) -> i32 {
+    // SAFETY: both slices are valid for their lengths, and the first is borrowed alone.
+    unsafe { c::roostcord_pieces_feed(state.as_mut_ptr(), state.len(), offset, piece.as_ptr(), piece.len()) }
+}
+
+#[inline(always)]
+pub fn pieces_taken(state: &[u8]) -> i32 {
+    // SAFETY: the slice is valid for its length.
+    unsafe { c::roostcord_pieces_taken(state.as_ptr(), state.len()) }
+}
