@@ -3,13 +3,14 @@
 IMAGE ?= samples/ddr5-4800.bin
 IMAGES ?= 10000000
 
-.PHONY: help lint station test judge surface fmt
+.PHONY: help lint station test judge bench surface fmt
 
 help:
 	@echo 'make lint       lint an image: make lint IMAGE=path (samples/ddr5-4800.bin if none is named)'
 	@echo 'make station    build the C library and the host program, target/station/station'
 	@echo 'make test       prove every crate, try every must-fail edit, run every program and test (minutes)'
-	@echo 'make judge      compare with the Rust linter spdr: make judge IMAGES=number SPDR=place of its sources (ten million if none is said)'
+	@echo 'make judge      compare with the Rust linter spdr: make judge IMAGES=number SPDR=place of its sources (a minute)'
+	@echo 'make bench      time it against spdr, as Markdown: make bench SPDR=place (half a minute)'
 	@echo 'make surface    hold the public calls to docs/PROMISES.md (a second)'
 	@echo 'make fmt        lay every Rattle and antt file out'
 
@@ -24,6 +25,9 @@ test:
 
 judge:
 	@tools/judge '$(IMAGES)'
+
+bench:
+	@tools/bench
 
 surface:
 	@tools/surface

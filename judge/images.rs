@@ -1,6 +1,9 @@
 //! The images that the judge and the bench are run on: sound ones of several module types, and what is done to them.
 //! Every byte of a sound image that no call reads is nonzero, so that a field read in the wrong place shows.
 
+// Two programs share this file, and neither uses all of it.
+#![allow(dead_code)]
+
 /// The reserved regions of document 01, offset and length.
 pub const RESERVED: [(usize, usize); 7] = [(15, 1), (29, 1), (103, 25), (128, 64), (214, 16), (236, 4), (448, 62)];
 
@@ -159,6 +162,16 @@ pub fn damage_time(image: &mut [u8], rng: &mut Rng) {
                 _ => (rng.below(110) as u16).wrapping_mul(tck).wrapping_add(rng.below(3) as u16).wrapping_sub(1),
             };
             put16(image, offset, value);
+        }
+    }
+}
+
+/// So many changes, one in three to a time.
+pub fn damaged(image: &mut [u8], changes: usize, rng: &mut Rng) {
+    for _ in 0..changes {
+        match rng.below(3) {
+            0 => damage_time(image, rng),
+            _ => damage(image, rng),
         }
     }
 }

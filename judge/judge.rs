@@ -276,16 +276,6 @@ fn some_length(rng: &mut Rng) -> usize {
     }
 }
 
-/// A sound image with up to twelve changes.
-fn damaged(rng: &mut Rng, image: &mut [u8]) {
-    for _ in 0..1 + rng.below(12) {
-        match rng.below(3) {
-            0 => images::damage_time(image, rng),
-            _ => images::damage(image, rng),
-        }
-    }
-}
-
 /// A place in the full product of cycle times and the edge values of all five times.
 fn product(rng: &mut Rng, image: &mut [u8]) {
     let tck = rng.pick(&CYCLE_TIMES);
@@ -331,7 +321,10 @@ fn random(judge: &mut Judge) {
         let len = some_length(&mut rng);
         let known = &mut image[..PROFILES];
         match rng.below(16) {
-            0..9 => damaged(&mut rng, known),
+            0..9 => {
+                let changes = 1 + rng.below(12);
+                images::damaged(known, changes, &mut rng)
+            }
             9..13 => product(&mut rng, known),
             13 => noise(&mut rng, known),
             _ => {

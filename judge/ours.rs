@@ -1,6 +1,11 @@
 //! The C library as its header, station/roostcord.h, declares it. A lent slice crosses as its pointer and its length, and
 //! the safe calls below hand over exactly that, so the borrow checker keeps what the header asks of a caller.
 
+// Two programs share this file, and neither uses all of it.
+#![allow(dead_code)]
+
+use std::ffi::c_void;
+
 pub const REPORT_MAX: usize = 215;
 pub const STATE_SIZE: usize = 512;
 pub const IMAGE_MAX: usize = 2048;
@@ -63,4 +68,28 @@ pub fn pieces_feed(state: &mut [u8], offset: usize, piece: &[u8]) -> i32 {
 pub fn pieces_taken(state: &[u8]) -> i32 {
     // SAFETY: the slice is valid for its length.
     unsafe { c::roostcord_pieces_taken(state.as_ptr(), state.len()) }
+}
+
+pub const SYMBOLS: usize = 13;
+
+/// Every call by its name, for measuring its stack.
+pub fn symbols() -> [(&'static str, *const c_void); SYMBOLS] {
+    macro_rules! named {
+        ($($symbol:ident),*) => { [$((stringify!($symbol), c::$symbol as *const c_void)),*] };
+    }
+    named![
+        roostcord_lint,
+        roostcord_identity,
+        roostcord_timings,
+        roostcord_cas_latencies,
+        roostcord_clocks,
+        roostcord_pieces_fresh,
+        roostcord_pieces_feed,
+        roostcord_pieces_taken,
+        roostcord_pieces_lint,
+        roostcord_pieces_identity,
+        roostcord_pieces_timings,
+        roostcord_pieces_cas_latencies,
+        roostcord_pieces_clocks
+    ]
 }

@@ -1,0 +1,401 @@
+//! The speed of the C library against the Rust linter spdr: the same images, one program, rounds that alternate, every finding
+//! copied out on both sides. Prints tables in Markdown. Usage: bench, or bench FAMILY PASSES: one family so often, for callgrind.
+
+mod images;
+mod ours;
+mod stack;
+
+use images::{Rng, put16};
+use spdr::Finding;
+use std::hint::black_box;
+use std::process::Command;
+use std::time::Duration;
+
+const LEN: usize = 512;
+const FIXED: usize = 512;
+const SHUFFLED: usize = 4096;
+const ROUNDS: usize = 25;
+const ROUND: Duration = Duration::from_millis(20);
+
+type Image = [u8; LEN];
+
+/// Sound images with 0 to 8 changes each.
+fn mixed(count: usize) -> Vec<Image> {
+    let bases = images::sound_images();
+    let one = |i| {
+        let mut rng = Rng::new(5, i as u64);
+        let mut image: Image = rng.pick(&bases)[..LEN].try_into().unwrap();
+        let changes = rng.below(9);
+        images::damaged(&mut image, changes, &mut rng);
+        image
+    };
+    (0..count).map(one).collect()
+}
+
+/// Sound images that differ in bytes that have no rule.
+fn clean(count: usize) -> Vec<Image> {
+    let bases = images::sound_images();
+    let one = |i| {
+        let mut rng = Rng::new(7, i as u64);
+        let mut image: Image = rng.pick(&bases)[..LEN].try_into().unwrap();
+        put16(&mut image, 40, rng.next() as u16);
+        put16(&mut image, 42, rng.next() as u16);
+        image
+    };
+    (0..count).map(one).collect()
+}
+
+// --- What is timed: one call on one image. The buffers that are filled are made once, before --------------------------------
+
+fn lint_ours() -> impl FnMut(&Image) {
+    let mut report = [0; ours::REPORT_MAX];
+    move |image| {
+        black_box(ours::lint(black_box(image), black_box(&mut report)));
+        black_box(&report);
+    }
+}
+
+fn lint_rust() -> impl FnMut(&Image) {
+    const NONE: Finding = Finding::NonStandardDataRate { data_rate_mt_s: 0 };
+    let mut found = [NONE; 16];
+    move |image| {
+        let mut count = 0;
+        spdr::lint(black_box(image), &mut |f| {
+            found[count & 15] = f;
+            count += 1;
+        });
+        black_box((&found, count));
+    }
+}
+
+fn identity_ours() -> impl FnMut(&Image) {
+    let mut out = [0; 18];
+    move |image| {
+        black_box(ours::identity(black_box(image), black_box(&mut out)));
+        black_box(&out);
+    }
+}
+
+fn identity_rust() -> impl FnMut(&Image) {
+    |image| {
+        let _ = black_box(spdr::decode_identity_and_base(black_box(image)));
+    }
+}
+
+fn timings_ours() -> impl FnMut(&Image) {
+    let mut out = [0; 30];
+    move |image| {
+        black_box(ours::timings(black_box(image), black_box(&mut out)));
+        black_box(&out);
+    }
+}
+
+fn timings_rust() -> impl FnMut(&Image) {
+    |image| {
+        let _ = black_box(spdr::decode_timings(black_box(image)));
+    }
+}
+
+/// The whole image in bursts of sixteen, then lint.
+fn bursts_ours() -> impl FnMut(&Image) {
+    let mut state = [0; ours::STATE_SIZE];
+    let mut report = [0; ours::REPORT_MAX];
+    move |image| {
+        black_box(ours::pieces_fresh(black_box(&mut state)));
+        for (k, burst) in black_box(image).chunks(16).enumerate() {
+            black_box(ours::pieces_feed(black_box(&mut state), 16 * k, black_box(burst)));
+        }
+        black_box(ours::pieces_lint(black_box(&state), black_box(&mut report)));
+        black_box(&report);
+    }
+}
+
+/// The loop's own share.
+fn nothing() -> impl FnMut(&Image) {
+    |image| {
+        black_box(image);
+    }
+}
+
+// --- Time --------------------------------------------------------------------------------------------------------------------
+
+#[repr(C)]
+struct Timespec {
+    seconds: i64,
+    nanoseconds: i64,
+}
+
+unsafe extern "C" {
+    fn clock_gettime(clock: i32, at: *mut Timespec) -> i32;
+}
+
+/// The processor time of this thread, so that what else runs on the machine is not counted.
+fn thread_time() -> Duration {
+    const CLOCK_THREAD_CPUTIME_ID: i32 = 3;
+    let mut at = Timespec { seconds: 0, nanoseconds: 0 };
+    // SAFETY: the place is valid, and laid out as 64-bit Linux has it.
+    let failed = unsafe { clock_gettime(CLOCK_THREAD_CPUTIME_ID, &mut at) };
+    assert!(failed == 0, "no clock for the time of a thread");
+    Duration::new(at.seconds as u64, at.nanoseconds as u32)
+}
+
+#[inline(never)]
+fn timed(images: &[Image], order: &[u32], call: &mut impl FnMut(&Image)) -> Duration {
+    let start = thread_time();
+    for &i in order {
+        call(&images[i as usize]);
+    }
+    thread_time() - start
+}
+
+/// The images in their order over and over, or in an order that is never the same again.
+fn order(images: usize, calls: usize, shuffled: bool, rng: &mut Rng) -> Vec<u32> {
+    let mut all = Vec::with_capacity(calls + images);
+    while all.len() < calls {
+        let start = all.len();
+        all.extend(0..images as u32);
+        if shuffled {
+            for i in (1..images).rev() {
+                all.swap(start + i, start + rng.below(i + 1));
+            }
+        }
+    }
+    all.truncate(calls);
+    all
+}
+
+struct Figures {
+    ratios: Vec<f64>,
+    best: f64,
+    first_ns: f64,
+    second_ns: f64,
+}
+
+fn median(sorted: &[f64]) -> f64 {
+    sorted[sorted.len() / 2]
+}
+
+fn sorted(mut all: Vec<f64>) -> Vec<f64> {
+    all.sort_by(f64::total_cmp);
+    all
+}
+
+/// Rounds of the first call and of the second, in turns, each pair in one order.
+fn compare(images: &[Image], shuffled: bool, mut first: impl FnMut(&Image), mut second: impl FnMut(&Image)) -> Figures {
+    let (first, second) = (&mut first, &mut second);
+    let mut rng = Rng::new(11, 0);
+    let trial = order(images.len(), SHUFFLED, shuffled, &mut rng);
+    timed(images, &trial, first);
+    timed(images, &trial, second);
+    let slower = timed(images, &trial, first).max(timed(images, &trial, second));
+    let calls = (ROUND.as_secs_f64() / slower.as_secs_f64() * SHUFFLED as f64) as usize;
+    let mut pairs = Vec::new();
+    for _ in 0..ROUNDS {
+        let order = order(images.len(), calls, shuffled, &mut rng);
+        let a = timed(images, &order, first).as_secs_f64();
+        let b = timed(images, &order, second).as_secs_f64();
+        pairs.push((a, b));
+    }
+    let firsts = sorted(pairs.iter().map(|p| p.0).collect());
+    let seconds = sorted(pairs.iter().map(|p| p.1).collect());
+    let per_call = 1e9 / calls as f64;
+    Figures {
+        ratios: sorted(pairs.iter().map(|p| p.0 / p.1).collect()),
+        best: firsts[0] / seconds[0],
+        first_ns: median(&firsts) * per_call,
+        second_ns: median(&seconds) * per_call,
+    }
+}
+
+// --- Instructions ------------------------------------------------------------------------------------------------------------
+
+/// Runs one family so often, for callgrind.
+fn run_family(name: &str, passes: usize) -> bool {
+    match name {
+        "lint-mixed-ours" => run(mixed, passes, lint_ours()),
+        "lint-mixed-rust" => run(mixed, passes, lint_rust()),
+        "lint-clean-ours" => run(clean, passes, lint_ours()),
+        "lint-clean-rust" => run(clean, passes, lint_rust()),
+        "identity-ours" => run(mixed, passes, identity_ours()),
+        "identity-rust" => run(mixed, passes, identity_rust()),
+        "timings-ours" => run(mixed, passes, timings_ours()),
+        "timings-rust" => run(mixed, passes, timings_rust()),
+        "bursts-ours" => run(mixed, passes, bursts_ours()),
+        "nothing" => run(mixed, passes, nothing()),
+        _ => return false,
+    }
+    true
+}
+
+fn run(images: fn(usize) -> Vec<Image>, passes: usize, mut call: impl FnMut(&Image)) {
+    let order = order(FIXED, passes * FIXED, false, &mut Rng::new(0, 0));
+    timed(&images(FIXED), &order, &mut call);
+}
+
+fn collected(name: &str, passes: usize) -> Option<f64> {
+    let me = std::env::current_exe().ok()?;
+    let said = Command::new("valgrind")
+        .args(["--tool=callgrind", "--callgrind-out-file=/dev/null"])
+        .arg(me)
+        .args([name, &passes.to_string()])
+        .output()
+        .ok()?;
+    let text = String::from_utf8_lossy(&said.stderr).into_owned();
+    let line = text.lines().find(|l| l.contains("Collected"))?;
+    line.rsplit(' ').next()?.parse().ok()
+}
+
+/// Instructions of one call: what sixteen more passes take, by the number of calls.
+fn instructions(name: &str) -> Option<f64> {
+    Some((collected(name, 20)? - collected(name, 4)?) / (16 * FIXED) as f64)
+}
+
+fn instruction_cell(name: &str, own: Option<f64>) -> String {
+    match (instructions(name), own) {
+        (Some(n), Some(own)) => format!("{:.0}", n - own),
+        _ => "no valgrind".into(),
+    }
+}
+
+// --- Tables ------------------------------------------------------------------------------------------------------------------
+
+fn first_line(program: &str, args: &[&str], with: &str) -> String {
+    let said = Command::new(program).args(args).output().map(|o| String::from_utf8_lossy(&o.stdout).into_owned());
+    let text = said.unwrap_or_default();
+    let line = text.lines().find(|l| l.contains(with)).unwrap_or("unknown");
+    line.rsplit(':').next().unwrap_or(line).trim().to_string()
+}
+
+fn print_machine() {
+    println!("- machine: {}, {}", first_line("lscpu", &[], "Model name"), std::env::consts::ARCH);
+    println!("- compiler of the Rust and of the driver: {}, `-C opt-level=3`", first_line("rustc", &["--version"], "rustc"));
+    let total: usize = mixed(FIXED).iter().map(|i| findings(i)).sum();
+    println!(
+        "- mixed images: {FIXED} sound ones with 0 to 8 changes each, {:.1} findings on average; clean ones have none",
+        total as f64 / FIXED as f64
+    );
+    println!(
+        "- fixed: {FIXED} images in one order over and over; shuffled: {SHUFFLED} images, an order that is new in each round"
+    );
+    println!(
+        "- {ROUNDS} rounds of about {} ms for each side, in turns; a ratio is that of two neighbouring rounds",
+        ROUND.as_millis()
+    );
+    println!("- times are processor time of the one thread; instructions are callgrind's, without those of the bench's own loop");
+    println!(
+        "- ours writes a report or a list of numbers; the Rust's findings are stored by its sink, its records handed back by value"
+    );
+    println!("- stack: bytes from the caller's end to the deepest byte that was written, the most over the mixed images");
+}
+
+fn findings(image: &Image) -> usize {
+    let mut count = 0;
+    spdr::lint(image, &mut |_| count += 1);
+    count
+}
+
+/// The cells of a row that are about time.
+fn time_cells(f: &Figures) -> String {
+    let r = &f.ratios;
+    let (low, high) = (r[r.len() / 4], r[3 * r.len() / 4]);
+    let spread = format!("{low:.2} to {high:.2} | {:.2} to {:.2}", r[0], r[r.len() - 1]);
+    format!("{:.2} | {spread} | {:.2} | {:.0} | {:.0}", median(r), f.best, f.first_ns, f.second_ns)
+}
+
+/// One call against the Rust's, in one order and shuffled.
+fn print_rows(
+    name: &str,
+    family: &str,
+    images: fn(usize) -> Vec<Image>,
+    mut ours: impl FnMut(&Image),
+    mut rust: impl FnMut(&Image),
+    own: Option<f64>,
+) {
+    let images = images(SHUFFLED);
+    let fixed = time_cells(&compare(&images[..FIXED], false, &mut ours, &mut rust));
+    let counts = (instruction_cell(&format!("{family}-ours"), own), instruction_cell(&format!("{family}-rust"), own));
+    println!("| {name}, fixed | {fixed} | {} | {} |", counts.0, counts.1);
+    let shuffled = time_cells(&compare(&images, true, &mut ours, &mut rust));
+    println!("| {name}, shuffled | {shuffled} | | |");
+}
+
+fn print_against_rust(own: Option<f64>) {
+    println!(
+        "| call | ours / Rust, median | quartiles | range | best of each | ours ns | Rust ns | ours instructions | Rust's |"
+    );
+    println!("|---|---|---|---|---|---|---|---|---|");
+    print_rows("lint, mixed", "lint-mixed", mixed, lint_ours(), lint_rust(), own);
+    print_rows("lint, clean", "lint-clean", clean, lint_ours(), lint_rust(), own);
+    print_rows("identity, mixed", "identity", mixed, identity_ours(), identity_rust(), own);
+    print_rows("timings, mixed", "timings", mixed, timings_ours(), timings_rust(), own);
+}
+
+fn print_bursts(own: Option<f64>) {
+    let f = compare(&mixed(FIXED), false, bursts_ours(), lint_ours());
+    println!(
+        "| ours alone | in bursts / one call, median | quartiles | range | best of each | bursts ns | one call ns | bursts' instructions |"
+    );
+    println!("|---|---|---|---|---|---|---|---|");
+    println!(
+        "| 512 bytes in 32 bursts, then lint; mixed, fixed | {} | {} |",
+        time_cells(&f),
+        instruction_cell("bursts-ours", own)
+    );
+}
+
+/// The arguments of a call on an image, or on a state that has taken all of it but the last burst.
+fn arguments(name: &str, image: &Image, state: &mut [u8], out: &mut [u32]) -> [usize; 5] {
+    let at = state.as_mut_ptr() as usize;
+    // So many places in each element size: the buffer is long enough in the widest.
+    let filled = out.as_mut_ptr() as usize;
+    match name {
+        "roostcord_pieces_fresh" | "roostcord_pieces_taken" => [at, state.len(), 0, 0, 0],
+        "roostcord_pieces_feed" => [at, state.len(), LEN - 16, image[LEN - 16..].as_ptr() as usize, 16],
+        _ if name.starts_with("roostcord_pieces") => [at, state.len(), filled, out.len(), 0],
+        _ => [image.as_ptr() as usize, LEN, filled, out.len(), 0],
+    }
+}
+
+/// The most stack of each call over the mixed images.
+fn print_stack() {
+    let mut room = stack::Stack::new();
+    let symbols = ours::symbols();
+    let mut most = [0; ours::SYMBOLS];
+    for image in mixed(FIXED) {
+        for (most, (name, function)) in most.iter_mut().zip(symbols) {
+            let mut state = [0; ours::STATE_SIZE];
+            ours::pieces_fresh(&mut state);
+            ours::pieces_feed(&mut state, 0, &image[..LEN - 16]);
+            let mut out = [0; ours::REPORT_MAX];
+            let arguments = arguments(name, &image, &mut state, &mut out);
+            // SAFETY: the arguments are those of station/roostcord.h, and nothing else uses the buffers meanwhile.
+            *most = (*most).max(unsafe { room.used(&stack::Call { function, arguments }) });
+            black_box((&state, &out));
+        }
+    }
+    println!("| call | stack, bytes |");
+    println!("|---|---|");
+    for ((name, _), bytes) in symbols.into_iter().zip(most) {
+        println!("| `{name}` | {bytes} |");
+    }
+}
+
+fn main() {
+    let args: Vec<String> = std::env::args().skip(1).collect();
+    match &args[..] {
+        [] => {}
+        [name, passes] if passes.parse().is_ok_and(|n| run_family(name, n)) => return,
+        _ => {
+            eprintln!("usage: bench, or bench FAMILY PASSES");
+            std::process::exit(2);
+        }
+    }
+    let own = instructions("nothing");
+    print_machine();
+    println!();
+    print_against_rust(own);
+    println!();
+    print_bursts(own);
+    println!();
+    print_stack();
+}
