@@ -41,6 +41,11 @@ impl Answers {
         Self::of(image, ours::lint, (ours::identity, ours::timings, ours::clocks), ours::cas_latencies)
     }
 
+    /// The flags of the report and the codes of its findings.
+    pub fn outline(&self) -> (u8, impl Iterator<Item = u8>) {
+        (self.report[3], self.report[5..].chunks(14).map(|r| r[0]).take(self.report[4].into()))
+    }
+
     fn of_state(state: &[u8]) -> Self {
         let lists = (ours::pieces_identity as _, ours::pieces_timings as _, ours::pieces_clocks as _);
         Self::of(state, ours::pieces_lint, lists, ours::pieces_cas_latencies)

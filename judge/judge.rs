@@ -23,6 +23,10 @@ struct Judge {
     short: u64,
     other: u64,
     differences: u64,
+    /// How many images decode, and how many findings of each code they have: that not all images end at the first check.
+    identities: u64,
+    timings: u64,
+    findings: [u64; 10],
     family: &'static str,
     family_start: u64,
     started: Instant,
@@ -40,6 +44,9 @@ impl Judge {
             short: 0,
             other: 0,
             differences: 0,
+            identities: 0,
+            timings: 0,
+            findings: [0; 10],
             family: "",
             family_start: 0,
             started: now,
@@ -80,9 +87,19 @@ impl Judge {
                 self.difference(image, &item);
             }
         }
+        self.tally(&ours);
         self.images += 1;
         if self.images.is_multiple_of(1024) {
             self.progress();
+        }
+    }
+
+    fn tally(&mut self, ours: &Answers) {
+        let (flags, codes) = ours.outline();
+        self.identities += u64::from(flags & 1);
+        self.timings += u64::from(flags >> 1 & 1);
+        for code in codes {
+            self.findings[usize::from(code.min(9))] += 1;
         }
     }
 
@@ -359,6 +376,8 @@ fn main() -> ExitCode {
     judge.family("CAS bits", cas_bits);
     judge.family("bursts", bursts);
     judge.family("random", random);
+    let codes: Vec<String> = (1..10).map(|code| format!("{} of code {code}", judge.findings[code])).collect();
+    eprintln!("judge: {} identities and {} timings decoded; findings: {}", judge.identities, judge.timings, codes.join(", "));
     println!(
         "judge: {} images, {} of them in pieces too, {} listed (row 1, short images), {} listed (row 2, other device types), \
          {} differences, seed {}, {} s",
