@@ -269,7 +269,7 @@ fn first_line(program: &str, args: &[&str], with: &str) -> String {
 fn print_machine() {
     println!("- machine: {}, {}", first_line("lscpu", &[], "Model name"), std::env::consts::ARCH);
     println!("- compiler of the Rust and of the driver: {}, `-C opt-level=3`", first_line("rustc", &["--version"], "rustc"));
-    let total: usize = mixed(FIXED).iter().map(|i| findings(i)).sum();
+    let total: usize = mixed(FIXED).iter().map(findings).sum();
     println!(
         "- mixed images: {FIXED} sound ones with 0 to 8 changes each, {:.1} findings on average; clean ones have none",
         total as f64 / FIXED as f64
