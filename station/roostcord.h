@@ -4,7 +4,8 @@
  * and then nothing that was lent has changed.
  *
  * What the caller owes, since no library can see it: each pointer leads to that many initialised elements (NULL is fine with a
- * count of 0), a uint32_t or uint16_t pointer is aligned as its type asks, and no two lent buffers of one call overlap.
+ * count of 0), a uint32_t or uint16_t pointer is aligned as its type asks, no two lent buffers of one call overlap, and nothing
+ * else writes a lent buffer, or reads one that the call writes, while the call runs.
  */
 #ifndef ROOSTCORD_H
 #define ROOSTCORD_H
