@@ -12,6 +12,7 @@ help:
 	@echo 'make judge      compare with the Rust linter spdr: make judge IMAGES=number SPDR=place of its sources (a minute)'
 	@echo 'make bench      time it against spdr, as Markdown: make bench SPDR=place (half a minute)'
 	@echo 'make surface    hold the public calls to docs/PROMISES.md (a second)'
+	@echo 'make trace      hold docs/TRACE.md and docs/TRUST.md to the files that they cite (a second)'
 	@echo 'make fmt        lay every Rattle and antt file out'
 
 lint:
@@ -31,6 +32,10 @@ bench:
 
 surface:
 	@tools/surface
+
+.PHONY: trace
+trace:
+	@tools/trace
 
 fmt:
 	@rt fmt
