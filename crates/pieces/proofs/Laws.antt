@@ -9,7 +9,7 @@ use lib.Seq.{take-all}
 use lib.Dec.{leb}
 use borrow.Author.Tests.{leb-true, leb-false}
 use Rattle.reading.proofs.Picked.{by-test}
-use Rattle.pieces.specs.Fed.{over}
+use Rattle.pieces.specs.Fed.{over, withEight}
 
 -- nothing laid over
 pub over-none : (k : List ℕ) (at : ℕ) → over k at [] ≡ k
@@ -27,6 +27,30 @@ over-more (x ∷ k) zero [] j h = absurd (not-suc-le-zero h)
 over-more (x ∷ k) zero (y ∷ p) zero h = ap (λ (l : List ℕ). y ∷ l) (sym (over-none k zero))
 over-more (x ∷ k) zero (y ∷ p) (suc j) h =
     rw zero-add (ap (λ (l : List ℕ). y ∷ l) (rw zero-add at (over-more k zero p j (le-of-suc-le-suc h))))
+
+-- eight bytes more
+over-step : (k : List ℕ) (at : ℕ) (p : List ℕ) (j : ℕ) {s : List ℕ} {q m : ℕ} → s ≡ over k at (take j p) → q ≡ at + j → m ≡ j → j < length p
+    → set s q (getD p m 0) ≡ over k at (take (suc j) p)
+over-step k at p j e f g h = rw (e, f, g) (over-more k at p j h)
+
+pub over-eight : (k : List ℕ) (at : ℕ) (p : List ℕ) (j : ℕ) {s : List ℕ} {q : ℕ} → s ≡ over k at (take j p) → q ≡ at + j → j + 8 ≤ length p
+    → withEight s q p j ≡ over k at (take (suc (suc (suc (suc (suc (suc (suc (suc j)))))))) p)
+over-eight k at p j e f h =
+    over-step k at p (suc (suc (suc (suc (suc (suc (suc j)))))))
+    (over-step k at p (suc (suc (suc (suc (suc (suc j))))))
+    (over-step k at p (suc (suc (suc (suc (suc j)))))
+    (over-step k at p (suc (suc (suc (suc j))))
+    (over-step k at p (suc (suc (suc j)))
+    (over-step k at p (suc (suc j))
+    (over-step k at p (suc j)
+    (over-step k at p j e f refl (omega arith))
+    (omega arith) (omega arith) (omega arith))
+    (omega arith) (omega arith) (omega arith))
+    (omega arith) (omega arith) (omega arith))
+    (omega arith) (omega arith) (omega arith))
+    (omega arith) (omega arith) (omega arith))
+    (omega arith) (omega arith) (omega arith))
+    (omega arith) (omega arith) (omega arith)
 
 -- what would stand past k's end does not matter
 pub over-cut : (k : List ℕ) (at : ℕ) (p : List ℕ) (j : ℕ) → length k ≤ at + j → over k at (take j p) ≡ over k at p

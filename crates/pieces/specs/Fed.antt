@@ -2,7 +2,7 @@
 use Prim.Native.Nat.{ℕ, zero, suc, _+_, _≤_}
 use mathlib.Core.Path.{_≡_}
 use mathlib.Core.List.{List, [], _∷_}
-use lib.ListN.{length, take, replicate}
+use lib.ListN.{length, take, getD, set, replicate}
 use lib.Dec.{eqb, leb}
 use Rattle.reading.specs.Pick.{pick}
 use Rattle.reading.specs.Said.{Said, gives, refuses, refused, told}
@@ -27,6 +27,12 @@ over [] at p = []
 over (k ∷ ks) (suc at) p = k ∷ over ks at p
 over (k ∷ ks) zero [] = k ∷ ks
 over (k ∷ ks) zero (x ∷ p) = x ∷ over ks zero p
+
+-- eight bytes of p from place i on, stored in k from place `at` on; a private function promises it
+abbrev pub withEight : List ℕ → ℕ → List ℕ → ℕ → List ℕ
+withEight k at p i =
+    set (set (set (set (set (set (set (set k at (getD p i 0)) (at + 1) (getD p (i + 1) 0)) (at + 2) (getD p (i + 2) 0)) (at + 3) (getD p (i + 3) 0))
+    (at + 4) (getD p (i + 4) 0)) (at + 5) (getD p (i + 5) 0)) (at + 6) (getD p (i + 6) 0)) (at + 7) (getD p (i + 7) 0)
 
 -- a state and what was answered
 pub record Feeding : Type 0 where

@@ -1,13 +1,13 @@
 // An image of at most 2,048 bytes that arrives in pieces, each with its offset. The state goes in by value and comes back.
 ghost use mathlib.Core.Path.{_≡_};
-ghost use Prim.Native.Nat.{_-_, min};
-ghost use lib.ListN.{take};
+ghost use Prim.Native.Nat.{_+_, _-_, min, _≤_};
+ghost use lib.ListN.{length, take};
 ghost use Rattle.decoders.specs.Answers.{identitySaid, timingsSaid};
 ghost use Rattle.decoders.specs.Identity.{identityOf};
 ghost use Rattle.decoders.specs.Timing.{timingsOf};
 ghost use Rattle.findings.specs.Lent.{listed};
 ghost use Rattle.rules.specs.Lint.{lintSaid, lintOf, lintAnswerSaid, lintAnswerOf, findingsOf};
-ghost use Rattle.pieces.specs.Fed.{freshPieces, over, fedSaid, fedBy, keptOf};
+ghost use Rattle.pieces.specs.Fed.{freshPieces, over, withEight, fedSaid, fedBy, keptOf};
 use decoders::identity::IdentityAnswer;
 use decoders::timing::TimingsAnswer;
 use findings::Finding;
@@ -133,8 +133,25 @@ fn room(at: usize, len: usize, most: usize) -> usize
     if len < n { len } else { n }
 }
 
-// Lays `piece` over `kept` from `at` on; what would stand past its end is dropped.
+// Lays `piece` over `kept` from `at` on; what would stand past its end is dropped. A burst of sixteen bytes goes in eight by eight.
 pub fn lay(kept: &mut [u8], at: usize, piece: &[u8])
+    ensures { λ _. ⌜ now (kept .exit) ≡ over (now (kept .entry)) at (now (piece .entry)) ⌝ }
+{
+    if piece.len() != 16 {
+        return lay_bytes(kept, at, piece);
+    }
+    if kept.len() < 16 {
+        return lay_bytes(kept, at, piece);
+    }
+    if kept.len() - 16 < at {
+        return lay_bytes(kept, at, piece);
+    }
+    lay_eight(kept, at, piece, 0);
+    lay_eight(kept, at + 8, piece, 8);
+}
+
+// Byte by byte, as many as there is room for.
+fn lay_bytes(kept: &mut [u8], at: usize, piece: &[u8])
     ensures { λ _. ⌜ now (kept .exit) ≡ over (now (kept .entry)) at (now (piece .entry)) ⌝ }
 {
     let n = room(at, piece.len(), kept.len());
@@ -143,6 +160,29 @@ pub fn lay(kept: &mut [u8], at: usize, piece: &[u8])
         kept[at + i] = piece[i];
         i += 1;
     }
+}
+
+// Eight bytes of `piece` from `i` on, to `kept` from `k` on. All are read before one is written, so that they move as one word.
+fn lay_eight(kept: &mut [u8], k: usize, piece: &[u8], i: usize)
+    requires { ⌜ (k + 8 ≤ length (now kept)) × (i + 8 ≤ length (now piece)) ⌝ }
+    ensures { λ _. ⌜ now (kept .exit) ≡ withEight (now (kept .entry)) k (now (piece .entry)) i ⌝ }
+{
+    let b0 = piece[i];
+    let b1 = piece[i + 1];
+    let b2 = piece[i + 2];
+    let b3 = piece[i + 3];
+    let b4 = piece[i + 4];
+    let b5 = piece[i + 5];
+    let b6 = piece[i + 6];
+    let b7 = piece[i + 7];
+    kept[k] = b0;
+    kept[k + 1] = b1;
+    kept[k + 2] = b2;
+    kept[k + 3] = b3;
+    kept[k + 4] = b4;
+    kept[k + 5] = b5;
+    kept[k + 6] = b6;
+    kept[k + 7] = b7;
 }
 
 // The same for the array of a state.

@@ -1,42 +1,39 @@
--- `pieces::lay` meets its contract. The invariant of its loop: i is at most the room, and `kept` is what it was with the first i bytes of
--- the piece laid over it. At the end the rest of the piece would change nothing. Assumes nothing.
-use Prim.Native.Nat.{_-_, _<_, _≤_}
-use mathlib.Core.Path.{_≡_, refl, sym, _∙_}
+-- `pieces::lay` meets its contract: a burst of sixteen is laid as its first eight bytes and then its last. Assumes nothing.
+use Prim.Native.Nat.{_≤_}
+use mathlib.Core.Path.{_≡_, ap, sym, _∙_}
 use native.Mathlib.Omega.{arith}
-use native.Mathlib.Numerals.{add-one}
-use lib.ListN.{length, take}
+use lib.ListN.{length}
+use lib.Seq.{take-all}
 use borrow.Author.Needs.{needs}
 use Rattle.pieces.specs.Fed.{over}
-use Rattle.pieces.proofs.Laws.{over-none, over-more, over-end}
+use Rattle.pieces.proofs.Laws.{over-none, over-eight}
 use Rattle.pieces.proofs.lay.Statement.{statement}
 use Rattle.pieces.proofs.lay.Tie as tie
 
-abbrev Inv-loop : tie.InvT-loop
-Inv-loop kept₀ at piece n i₀ kept i = (i ≤ n) × (length kept ≡ length kept₀) × (kept ≡ over kept₀ at (take i piece))
-
-abbrev μ-loop : tie.MeasureT-loop
-μ-loop kept₀ at piece n i₀ kept i = n - i
+returns-4 : tie.Need-returns-4
+returns-4 c =
+    let a = c .before .before .before .before .before .before .before .before .before .before .before .before .before .args in
+    let k = a .kept .now in
+    let p = a .piece .now in
+    let first = c .before .before .before .before .before .before .lay-eight .ensures ∙ over-eight k (a .at) p 0 (sym (over-none k (a .at))) (omega arith) (omega arith) in
+    c .before .before .lay-eight2 .ensures ∙ over-eight k (a .at) p 8 first (omega arith) (omega arith) ∙ ap (over k (a .at)) (take-all 16 p (omega arith))
 
 pub lay-spec : {M : Type 1} → statement M
 lay-spec =
     tie.close
     (tie.spec
-    Inv-loop
-    μ-loop
     (λ c κs. search needs)
-    (λ c. (search needs, refl, sym (over-none _ _)))
+    (λ c. search needs)
+    (λ c. search needs)
+    (λ c κs. search needs)
     (λ c. search needs)
     (λ c. search needs)
     (λ c. search needs)
+    (λ c κs. search needs)
     (λ c. search needs)
     (λ c. search needs)
-    (λ c.
-    let l = c .before .before .loop in
-    let a = c .before .before .before .before .before .before .args in
-    let h : l .i < length (a .piece .now) = omega arith in
-    (search needs, search needs, rw (l .inv .2, add-one) (over-more _ _ _ _ h)))
+    (λ c κs. search needs)
     (λ c. search needs)
-    (λ c.
-    let a = c .before .before .before .before .before .args in
-    let l = c .before .loop in
-    l .inv .2 ∙ over-end (a .kept .now) (a .at) (a .piece .now) (l .i) (omega arith)))
+    (λ c κs. search needs)
+    (λ c. search needs)
+    returns-4)
