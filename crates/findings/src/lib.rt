@@ -1,4 +1,5 @@
 // Findings: the record, fifteen of them by value with a count, and the two loops between those and a lent list.
+// No other function walks a list of records, so the proofs done by hand stand here alone.
 ghost use mathlib.Core.Path.{_≡_};
 ghost use lib.ListN.{length};
 ghost use Rattle.findings.specs.Hold.{blankFinding, blankItems};

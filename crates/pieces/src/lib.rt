@@ -1,4 +1,5 @@
 // An image of at most 2,048 bytes that arrives in pieces, each with its offset. The state goes in by value and comes back.
+// A piece is taken where its offset is the count taken, so a burst that comes twice can shift nothing.
 ghost use mathlib.Core.Path.{_≡_};
 ghost use Prim.Native.Nat.{_+_, _-_, min, _≤_};
 ghost use lib.ListN.{length, take};

@@ -1,4 +1,5 @@
 // The report form, version 1: findings written into a lent buffer, and read back.
+// What is written reads back as it was, and nothing else is read: proofs/Trip.antt.
 ghost use mathlib.Core.Path.{_≡_};
 ghost use Prim.Native.Nat.{_+_, _*_, _<_, _≤_};
 ghost use mathlib.Core.List.{[], _∷_, _++_};

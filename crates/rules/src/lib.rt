@@ -1,4 +1,5 @@
 // The rules and the linter. A rule answers one finding or none; the findings of an image come in document 01's order.
+// The linter hands them out as records by value, as numbers in two lent lists, or as records in a lent list.
 ghost use mathlib.Core.Path.{_≡_};
 ghost use Prim.Native.Nat.{_+_, _-_, _<_, _≤_};
 ghost use lib.ListN.{length, getD};

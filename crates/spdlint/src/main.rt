@@ -1,4 +1,5 @@
-// The report program: an image on standard input, its listing on standard output.
+// The report program: an image on standard input, its listing on standard output, as document 01's "Printed listing" has it.
+// It asks the linter once and only spells what it answers.
 use decoders::identity::IdentityAnswer;
 use decoders::timing::TimingsAnswer;
 use findings::Finding;
