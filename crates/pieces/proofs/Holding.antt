@@ -7,11 +7,13 @@ use mathlib.Core.List.{List, [], _∷_, _++_}
 use native.Mathlib.Omega.{arith}
 use lib.ListN.{length, replicate, length-append}
 use lib.Dec.{eqb, leb}
-use borrow.Author.Tests.{leb-true}
+use borrow.Author.Tests.{eq-eqb, le-leb, leb-true}
 use Rattle.reading.specs.Pick.{pick, and}
+use Rattle.reading.specs.Said.{gives}
 use Rattle.pieces.specs.Fed.{over, Feeding, fedBy, freshPieces, keptBytes, longest, padded, Holds}
 use Rattle.pieces.specs.Run.{Call, takes, answerAt}
 use Rattle.pieces.specs.declared.Pieces.{Pieces}
+use Rattle.pieces.proofs.Laws.{over-none}
 
 padded-none : (n : ℕ) → padded n [] ≡ replicate n 0
 unfolding padded
@@ -53,6 +55,12 @@ both false u e = absurd (false≢true e)
 -- a call that is not taken leaves the state as it was
 pub refused : (s : Pieces) (c : Call) → takes (s .taken) c ≡ false → fedBy s (c .offset) (c .piece) .state ≡ s
 refused s c e = refused-by _ _ _ s refl refl (eqb (c .offset) (s .taken)) (leb (s .taken + length (c .piece)) longest) e
+
+-- an empty piece at the right offset is taken and changes nothing
+pub empty-piece : (s : Pieces) → s .taken ≤ longest → fedBy s (s .taken) [] ≡ record { state = s; answer = gives (s .taken) }
+empty-piece s h =
+    let e : s .taken + length {A = ℕ} [] ≡ s .taken = omega arith in
+    rw (e, eq-eqb (s .taken) (s .taken) refl, le-leb (s .taken) longest h, over-none (s .kept) (s .taken))
 
 -- the piece of a call that is taken is held behind what was held
 pub taken : {s : Pieces} {b : List ℕ} → Holds s b → (c : Call) → takes (length b) c ≡ true → Holds (fedBy s (c .offset) (c .piece) .state) (b ++ c .piece)
