@@ -1,6 +1,6 @@
 -- What linting finds can always be reported: at most fifteen findings, all of the table's, with flags of two bits. So want of room is the
 -- only refusal. Assumes nothing.
-use Prim.Native.Nat.{ℕ, _<_, _≤_}
+use Prim.Native.Nat.{ℕ, _+_, _<_, _≤_}
 use mathlib.Core.Path.{_≡_, _∙_}
 use mathlib.Core.List.{List}
 use native.Mathlib.Omega.{arith}
@@ -15,8 +15,10 @@ use Rattle.decoders.specs.Timing.{timingsOf}
 use Rattle.rules.specs.Lint.{findingsOf}
 use Rattle.rules.proofs.Inside.{inside}
 use Rattle.rules.proofs.Never.{at-most-fifteen}
+use Rattle.report.specs.Form.{restOf}
+use Rattle.report.specs.Read.{contentOf}
 use Rattle.report.specs.Write.{fitted, writeOf, foundOf, writtenOver, flagsFor, lintReportOf, lintReportAfter}
-use Rattle.report.proofs.Trip.{Reportable}
+use Rattle.report.proofs.Trip.{Reportable, written-reads}
 use Rattle.report.proofs.Loaded.{found-held}
 
 pub fits : (flags : ℕ) (l : List Finding) (room : ℕ) → Reportable flags l → writeOf flags l room ≡ fitted (length l) room
@@ -44,3 +46,14 @@ module _ (s : List ℕ) (bytes : (i : ℕ) → getD s i 0 < 256) where
       → writtenOver (foundOf (flagsFor (identityOf s) (timingsOf s)) (holding (findingsOf s)) (length out)) (flagsFor (identityOf s) (timingsOf s)) (take (holding (findingsOf s) .count) (holding (findingsOf s) .items)) out ≡ lintReportAfter s out
   unfolding lintReportAfter
   lint-after out = rw (lint-answer (length out), list-held (findingsOf s))
+
+  -- in a buffer with room, what `lint_report` leaves reads back: the flags and findings of the image
+  pub lint-reads : (out : List ℕ) → restOf (length (findingsOf s)) + 2 ≤ length out
+      → contentOf (lintReportAfter s out) ≡ gives (record { flags = flagsFor (identityOf s) (timingsOf s); findings = findingsOf s })
+  unfolding lintReportAfter lintReportOf
+  lint-reads out h =
+      let flags = flagsFor (identityOf s) (timingsOf s) in
+      let l = findingsOf s in
+      let ok : Reportable flags l = record { flagged = flags-few (identityOf s) (timingsOf s); few = at-most-fifteen s; listed = inside s bytes } in
+      let room : fitted (length l) (length out) ≡ gives (restOf (length l) + 2) = rw (le-ltb (length out) (restOf (length l) + 2) h) in
+      rw (← fits flags l (length out) ok) (written-reads flags l (length out) out (fits flags l (length out) ok ∙ room))
