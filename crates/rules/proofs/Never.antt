@@ -1,5 +1,5 @@
 -- The package rule cannot occur on a decoded image: package and dies come from one row of the decoder's table. So of the sixteen rules
--- at most fifteen speak. Assumes nothing.
+-- at most fifteen speak. A rated profile has five rules. Assumes nothing.
 use Prim.Native.Nat.{ℕ, _+_, _/_, _%_, _≤_}
 use mathlib.Core.Path.{_≡_, refl, subst}
 use mathlib.Core.List.{List, _∷_, _++_}
@@ -17,8 +17,9 @@ use Rattle.decoders.specs.Codes.{row, sizeOf, deviceOf, moduleOf, densityOf, pa
 use Rattle.decoders.specs.Identity.{identityAt}
 use Rattle.decoders.specs.declared.identity.IdentityAndBase.{IdentityAndBase}
 use Rattle.decoders.specs.declared.identity.PackageType.{PackageType}
-use Rattle.rules.specs.Rules.{coherence, each}
-use Rattle.rules.specs.Lint.{onGiven, lintRules, lintAt, findingsOf}
+use Rattle.rules.specs.Rules.{coherence, each, ratedRules}
+use Rattle.rules.specs.Lint.{onGiven, lintRules, lintAt, findingsOf, ratedFindings}
+use Rattle.rules.specs.declared.RatedTimings.{RatedTimings}
 
 -- P holds of the value, where one is given
 abbrev pub OfGiven : {A : Type 0} → Said A → (A → Type 0) → Type 0
@@ -99,3 +100,7 @@ fits v = fewer (take 8 (each lintRules v)) (drop 9 (each lintRules v)) _ (never 
 pub at-most-fifteen : (s : List ℕ) → length (findingsOf s) ≤ 15
 unfolding lintAt
 at-most-fifteen s = fits (view s)
+
+pub at-most-five : (r : RatedTimings) → length (ratedFindings r) ≤ 5
+unfolding ratedFindings
+at-most-five r = length-cat (each ratedRules r)

@@ -8,8 +8,6 @@ use Rattle.findings.specs.Hold.{holding}
 use Rattle.findings.specs.Lent.{over, placesOf, listed}
 use Rattle.findings.specs.declared.Finding.{Finding}
 use Rattle.findings.specs.declared.Findings.{Findings}
-use Rattle.findings.proofs.Laws.{length-cat}
-use Rattle.rules.specs.Rules.{ratedRules, each}
 use Rattle.rules.specs.Lint.{ratedFindings, ratedSaid, ratedReplied, ratedOf}
 use Rattle.rules.specs.declared.RatedTimings.{RatedTimings}
 use Rattle.rules.specs.declared.RatedAnswer.{RatedAnswer}
@@ -17,6 +15,7 @@ use Rattle.rules.proofs.RatedTimings as RT
 use Rattle.rules.proofs.RatedTimings.Laws as RT′
 use Rattle.rules.proofs.RatedAnswer as RA
 use Rattle.rules.proofs.RatedAnswer.Laws as RA′
+use Rattle.rules.proofs.Never.{at-most-five}
 use Rattle.rules.proofs.Listed.{of-struct, of-enum, of-usize, of-findings, itself, count, Plan, filled-by, by-value}
 use Rattle.rules.proofs.rated_findings.Symbol.{name as #rules·rated-findings}
 use Rattle.rules.proofs.rated_findings.Met as found
@@ -28,9 +27,9 @@ use Rattle.rules.proofs.check_rated_profile.Code as code
 
 keeps : (r : RatedTimings) (xs : List Finding) (f : Findings) (a : RatedAnswer) → f ≡ holding (ratedFindings r) → ratedSaid a ≡ ratedReplied (length xs) (f .count)
     → (ratedSaid a ≡ ratedOf r xs) × (over (placesOf (length xs) 5 (f .count)) (f .items) xs ≡ listed 5 (ratedFindings r) xs)
-unfolding holding ratedFindings ratedOf
+unfolding holding ratedOf
 keeps r xs f a e e₂ =
-    let h = length-cat (each ratedRules r) in
+    let h = at-most-five r in
     (e₂ ∙ ap (λ (g : Findings). ratedReplied (length xs) (g .count)) e, filled-by (ratedFindings r) xs 5 e (omega arith) h)
 
 abbrev plan : Plan RatedTimings

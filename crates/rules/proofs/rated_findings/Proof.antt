@@ -2,11 +2,11 @@
 use mathlib.Core.Path.{refl, _∙_}
 use native.Mathlib.Omega.{arith}
 use borrow.Author.Needs.{needs}
-use Rattle.findings.proofs.Laws.{length-cat}
 use Rattle.rules.specs.Rules.{ratedRules, each}
 use Rattle.rules.specs.Lint.{ratedFindings}
 use Rattle.rules.specs.Lanes.{noteAll}
 use Rattle.rules.proofs.Gathered.{note-on, whole}
+use Rattle.rules.proofs.Never.{at-most-five}
 use Rattle.rules.proofs.rated_findings.Statement.{statement}
 use Rattle.rules.proofs.rated_findings.Tie as tie
 
@@ -18,9 +18,9 @@ returns c =
     let n3 = n4 .before .before .before .before .before .before in
     let n2 = n3 .before .before .before .before .before .before in
     let n1 = n2 .before .before .before .before .before .before in
-    let xs = each ratedRules (n1 .before .before .before .before .before .args .r) in
+    let r = n1 .before .before .before .before .before .args .r in
     c .records .ensures
-    ∙ whole xs
+    ∙ whole (each ratedRules r)
     (note-on (n5 .note5 .ensures)
     (note-on (n4 .note4 .ensures)
     (note-on (n3 .note3 .ensures)
@@ -30,7 +30,7 @@ returns c =
     (n3 .before .check-clock-multiple .ensures))
     (n4 .before .check-clock-multiple2 .ensures))
     (n5 .before .check-standard-rate .ensures))
-    (omega (arith, length-cat xs))
+    (omega (arith, at-most-five r))
 
 pub rated-findings-spec : {M : Type 1} → statement M
 rated-findings-spec =
