@@ -3,7 +3,7 @@
 IMAGE ?= samples/ddr5-4800.bin
 IMAGES ?= 10000000
 
-.PHONY: help lint station test judge bench surface fmt
+.PHONY: help lint station test judge bench list surface fmt
 
 help:
 	@echo 'make lint       lint an image: make lint IMAGE=path (samples/ddr5-4800.bin if none is named)'
@@ -12,6 +12,7 @@ help:
 	@echo 'make judge      compare with the Rust linter spdr: make judge IMAGES=number SPDR=place of its sources (a minute)'
 	@echo 'make bench      time it against spdr, as Markdown: make bench SPDR=place (half a minute)'
 	@echo 'make surface    hold the public calls to docs/PROMISES.md (a second)'
+	@echo 'make list       hold the list that replay runs on to the Rust linter, where that is at hand (SPDR=place)'
 	@echo 'make trace      hold docs/TRACE.md and docs/TRUST.md to the files that they cite (a second)'
 	@echo 'make fmt        lay every Rattle and antt file out'
 
@@ -32,6 +33,9 @@ bench:
 
 surface:
 	@tools/surface
+
+list:
+	@tools/replay-list
 
 .PHONY: trace
 trace:
