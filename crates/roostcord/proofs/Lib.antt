@@ -4,3 +4,4 @@ pub mod Stores
 pub mod Feeding
 pub mod Tied
 pub mod Once
+pub mod Bits

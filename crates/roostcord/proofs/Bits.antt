@@ -1,0 +1,194 @@
+-- Every refusal that a call of the C library gives has its values within their bits, where what is lent are bytes: so no two of them have
+-- the same word. A field's number is at most 9, a code and a device type are bytes, a count has twelve bits. Assumes nothing.
+use Prim.Native.Nat.{ℕ, zero, suc, _+_, _/_, _%_, _<_}
+use mathlib.Core.Path.{_≡_, subst}
+use mathlib.Core.List.{List, [], _∷_}
+use native.Mathlib.Omega.{arith}
+use lib.Dec.{eqb, ltb, leb}
+use lib.ListN.{length, getD, take, drop}
+use lib.Seq.{getD-drop}
+use Rattle.reading.specs.Said.{Said, gives, refuses, onward, told}
+use Rattle.reading.specs.View.{View, view}
+use Rattle.reading.specs.declared.Refusal.{Refusal}
+use Rattle.reading.proofs.Picked.{either}
+use Rattle.decoders.specs.Codes.{row, sizeOf, deviceOf, moduleOf, densityOf, packageOf, ioWidthOf, bankGroupsOf, banksOf, busWidthOf, channelsOf}
+use Rattle.decoders.specs.Identity.{identityAt, identityOf}
+use Rattle.decoders.specs.Timing.{timingsAt, timingsOf}
+use Rattle.decoders.specs.Clocks.{clockTableOf}
+use Rattle.decoders.specs.declared.timing.Timings.{Timings}
+use Rattle.rules.specs.Lint.{findingsOf}
+use Rattle.report.specs.Form.{restOf}
+use Rattle.report.specs.Write.{lintReportOf}
+use Rattle.pieces.specs.Fed.{Feeding, fedBy, longest}
+use Rattle.roostcord.specs.Numbers.{identityList, timingsList, casNumbers, clocksList, listedIn}
+use Rattle.roostcord.specs.Word.{refusalWord}
+use Rattle.roostcord.specs.State.{short, countIn, stateIn, arrivedIn, asked, freshIn, feedIn, takenIn}
+use Rattle.roostcord.proofs.Once.{InBits, word-once}
+
+-- a refusal, if it is one, has its values within their bits
+abbrev pub Fits : {A : Type 0} → Said A → Type 0
+Fits (gives a) = Unit {0}
+Fits (refuses t) = (t .first < 4096) × (t .second < 1024)
+
+row-fits : {A : Type 0} (code k : ℕ) (x : A) (below : Said A) → Fits below → Fits (row code k x below)
+row-fits code k x below = either Fits (eqb code k) tt
+
+-- the tables: a code that no row has is carried with the field's number
+sizes : (code : ℕ) → code < 1024 → Fits (sizeOf code)
+unfolding sizeOf
+sizes code h = let z : (1 < 4096) × (code < 1024) = (omega arith, h) in search (row-fits, z) depth 14
+
+modules : (code : ℕ) → code < 1024 → Fits (moduleOf code)
+unfolding moduleOf
+modules code h = let z : (2 < 4096) × (code < 1024) = (omega arith, h) in search (row-fits, z) depth 14
+
+densities : (code : ℕ) → code < 1024 → Fits (densityOf code)
+unfolding densityOf
+densities code h = let z : (3 < 4096) × (code < 1024) = (omega arith, h) in search (row-fits, z) depth 14
+
+packages : (code : ℕ) → code < 1024 → Fits (packageOf code)
+unfolding packageOf
+packages code h = let z : (4 < 4096) × (code < 1024) = (omega arith, h) in search (row-fits, z) depth 14
+
+widths : (code : ℕ) → code < 1024 → Fits (ioWidthOf code)
+unfolding ioWidthOf
+widths code h = let z : (5 < 4096) × (code < 1024) = (omega arith, h) in search (row-fits, z) depth 14
+
+groups : (code : ℕ) → code < 1024 → Fits (bankGroupsOf code)
+unfolding bankGroupsOf
+groups code h = let z : (6 < 4096) × (code < 1024) = (omega arith, h) in search (row-fits, z) depth 14
+
+banks : (code : ℕ) → code < 1024 → Fits (banksOf code)
+unfolding banksOf
+banks code h = let z : (7 < 4096) × (code < 1024) = (omega arith, h) in search (row-fits, z) depth 14
+
+buses : (code : ℕ) → code < 1024 → Fits (busWidthOf code)
+unfolding busWidthOf
+buses code h = let z : (8 < 4096) × (code < 1024) = (omega arith, h) in search (row-fits, z) depth 14
+
+channels : (code : ℕ) → code < 1024 → Fits (channelsOf code)
+unfolding channelsOf
+channels code h = let z : (9 < 4096) × (code < 1024) = (omega arith, h) in search (row-fits, z) depth 14
+
+devices : (byte2 : ℕ) → byte2 < 256 → Fits (deviceOf byte2)
+unfolding deviceOf
+devices byte2 h = either Fits (eqb byte2 0x12) tt (omega arith, omega arith)
+
+-- a step of a chain of checks
+on-fits : {A B : Type 0} (s : Said A) (go : A → Said B) → Fits s → ((a : A) → Fits (go a)) → Fits (onward refuses s go)
+on-fits (gives a) go h k = k a
+on-fits (refuses t) go h k = h
+
+-- a refusal that carries nothing
+plain : (0 < 4096) × (0 < 1024)
+plain = (omega arith, omega arith)
+
+identity-fits : (v : View) → v .byte 2 < 256 → Fits (identityAt v)
+identity-fits v h =
+    either Fits (v .below 236) plain
+    (on-fits (sizeOf (v .byte 0 / 16 % 8)) _ (sizes (v .byte 0 / 16 % 8) (omega arith)) (λ size.
+    on-fits (deviceOf (v .byte 2)) _ (devices (v .byte 2) h) (λ device.
+    on-fits (moduleOf (v .byte 3 % 16)) _ (modules (v .byte 3 % 16) (omega arith)) (λ m.
+    on-fits (densityOf (v .byte 4 % 32)) _ (densities (v .byte 4 % 32) (omega arith)) (λ density.
+    on-fits (packageOf (v .byte 4 / 32 % 8)) _ (packages (v .byte 4 / 32 % 8) (omega arith)) (λ p.
+    on-fits (ioWidthOf (v .byte 6 / 32 % 8)) _ (widths (v .byte 6 / 32 % 8) (omega arith)) (λ width.
+    on-fits (bankGroupsOf (v .byte 7 / 32 % 8)) _ (groups (v .byte 7 / 32 % 8) (omega arith)) (λ g.
+    on-fits (banksOf (v .byte 7 % 8)) _ (banks (v .byte 7 % 8) (omega arith)) (λ b.
+    on-fits (busWidthOf (v .byte 235 % 8)) _ (buses (v .byte 235 % 8) (omega arith)) (λ bus.
+    on-fits (channelsOf (v .byte 235 / 32 % 8)) _ (channels (v .byte 235 / 32 % 8) (omega arith)) (λ c. tt)))))))))))
+
+timings-fits : (v : View) → Fits (timingsAt v)
+timings-fits v = either Fits (v .below 94) plain tt
+
+table-fits : (t : Timings) → Fits (clockTableOf t)
+unfolding clockTableOf
+table-fits t = either Fits (eqb (t .«tckavg_min» .0) 0) plain tt
+
+listed-fits : (need : ℕ) (numbers : Said (List ℕ)) (room : ℕ) → Fits numbers → Fits (listedIn need numbers room)
+unfolding listedIn
+listed-fits need numbers room h = either Fits (ltb room need) plain (on-fits numbers _ h (λ l. tt))
+
+abbrev pub AllBytes : List ℕ → Type 0
+AllBytes s = (i : ℕ) → getD s i 0 < 256
+
+-- ---- the calls on an image
+module _ (s : List ℕ) (room : ℕ) where
+  pub lint-bits : Fits (lintReportOf s room)
+  unfolding lintReportOf
+  lint-bits = either Fits (ltb room (restOf (length (findingsOf s)) + 2)) plain tt
+
+  pub identity-bits : AllBytes s → Fits (listedIn 18 (identityList s) room)
+  unfolding identityList identityOf
+  identity-bits h = listed-fits 18 _ room (on-fits (identityOf s) _ (identity-fits (view s) (h 2)) (λ d. tt))
+
+  pub timings-bits : Fits (listedIn 30 (timingsList s) room)
+  unfolding timingsList timingsOf
+  timings-bits = listed-fits 30 _ room (on-fits (timingsOf s) _ (timings-fits (view s)) (λ t. tt))
+
+  pub cas-bits : Fits (listedIn 40 (casNumbers s) room)
+  unfolding casNumbers timingsOf
+  cas-bits = listed-fits 40 _ room (on-fits (timingsOf s) _ (timings-fits (view s)) (λ t. tt))
+
+  pub clocks-bits : Fits (listedIn 9 (clocksList s) room)
+  unfolding clocksList timingsOf
+  clocks-bits = listed-fits 9 _ room (on-fits (timingsOf s) _ (timings-fits (view s)) (λ t. on-fits (clockTableOf t) _ (table-fits t) (λ c. tt)))
+
+-- ---- the calls on a state in lent bytes: what has arrived are bytes, so the above holds of it
+bytes-take : (n : ℕ) (s : List ℕ) → AllBytes s → AllBytes (take n s)
+bytes-take zero s h i = omega arith
+bytes-take (suc n) [] h i = omega arith
+bytes-take (suc n) (x ∷ s) h zero = h 0
+bytes-take (suc n) (x ∷ s) h (suc i) = bytes-take n s (λ j. h (suc j)) i
+
+module _ (s : List ℕ) where
+  pub asked-bits : {A : Type 0} (said : Said A) → Fits said → Fits (asked s said)
+  asked-bits said h = either Fits (short s) plain h
+
+  pub fresh-bits : Fits (freshIn s)
+  unfolding freshIn
+  fresh-bits = asked-bits (gives 0) tt
+
+  pub taken-bits : Fits (takenIn s)
+  unfolding takenIn
+  taken-bits = asked-bits (gives (countIn s)) tt
+
+  pub arrived-bytes : AllBytes s → AllBytes (arrivedIn s)
+  arrived-bytes h =
+      bytes-take (countIn s) (take 510 (drop 2 s))
+      (bytes-take 510 (drop 2 s) (λ i. rw (getD-drop 2 s i 0) (h (2 + i))))
+
+  pub feed-bits : (offset : ℕ) (piece : List ℕ) → AllBytes s → Fits (feedIn s offset piece)
+  unfolding feedIn
+  feed-bits offset piece h =
+      let few : countIn s < 4096 = omega (arith, h 0) in
+      asked-bits (fedBy (stateIn s) offset piece .answer)
+      (either (λ (f : Feeding). Fits (f .answer)) (eqb offset (countIn s))
+      (either (λ (f : Feeding). Fits (f .answer)) (leb (countIn s + length piece) longest) tt plain)
+      (few, omega arith))
+
+  module _ (room : ℕ) where
+    pub state-lint-bits : Fits (asked s (lintReportOf (arrivedIn s) room))
+    state-lint-bits = asked-bits _ (lint-bits (arrivedIn s) room)
+
+    pub state-identity-bits : AllBytes s → Fits (asked s (listedIn 18 (identityList (arrivedIn s)) room))
+    state-identity-bits h = asked-bits _ (identity-bits (arrivedIn s) room (arrived-bytes h))
+
+    pub state-timings-bits : Fits (asked s (listedIn 30 (timingsList (arrivedIn s)) room))
+    state-timings-bits = asked-bits _ (timings-bits (arrivedIn s) room)
+
+    pub state-cas-bits : Fits (asked s (listedIn 40 (casNumbers (arrivedIn s)) room))
+    state-cas-bits = asked-bits _ (cas-bits (arrivedIn s) room)
+
+    pub state-clocks-bits : Fits (asked s (listedIn 9 (clocksList (arrivedIn s)) room))
+    state-clocks-bits = asked-bits _ (clocks-bits (arrivedIn s) room)
+
+-- ---- a refusal that fits is one of those that no two have one word of
+pub in-bits : {A : Type 0} (said : Said A) (r : Refusal) → Fits said → said ≡ refuses (told r) → InBits r
+in-bits {A} said r h e =
+    let p : Fits {A = A} (refuses (told r)) = subst (λ (x : Said A). Fits x) e h in
+    record { first = p .0; second = p .1 }
+
+-- two answers of calls, of whichever, that are refused with one word have one refusal
+pub refused-once : {A B : Type 0} (x : Said A) (y : Said B) (a b : Refusal) → Fits x → Fits y → x ≡ refuses (told a) → y ≡ refuses (told b)
+    → refusalWord (told a) ≡ refusalWord (told b) → a ≡ b
+refused-once x y a b h k e f w = word-once a b (in-bits x a h e) (in-bits y b k f) w
