@@ -1,5 +1,6 @@
 pub mod Words
 pub mod Answers
+pub mod Reports
 pub mod Stores
 pub mod Feeding
 pub mod Tied

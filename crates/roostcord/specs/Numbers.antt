@@ -12,6 +12,9 @@ use Rattle.decoders.specs.Cas.{casList}
 use Rattle.decoders.specs.Identity.{identityOf}
 use Rattle.decoders.specs.Timing.{timingsOf, rateOf}
 use Rattle.decoders.specs.Clocks.{clockTableOf}
+use Rattle.findings.specs.declared.Finding.{Finding}
+use Rattle.rules.specs.Lanes.{severityNumber}
+use Rattle.report.specs.Read.{Content, contentOf}
 use Rattle.decoders.specs.declared.identity.IdentityAndBase.{IdentityAndBase}
 use Rattle.decoders.specs.declared.timing.Timings.{Timings}
 use Rattle.decoders.specs.declared.clocks.ClockTable.{ClockTable}
@@ -74,6 +77,21 @@ timingNumbers t =
 abbrev pub clockNumbers : ClockTable → List ℕ
 clockNumbers c = c .taa ∷ c .trcd ∷ c .trp ∷ c .tras ∷ c .trc ∷ c .twr ∷ c .trfc1 ∷ c .trfc2 ∷ c .trfcsb ∷ []
 
+-- a report: its flags, and six numbers for each finding
+abbrev pub findingNumbers : List Finding → List ℕ
+findingNumbers [] = []
+findingNumbers (f ∷ l) =
+    f .code
+    ∷ severityNumber (f .severity)
+    ∷ f .sub
+    ∷ f .first
+    ∷ f .second
+    ∷ f .third
+    ∷ findingNumbers l
+
+abbrev pub reportNumbers : Content → List ℕ
+reportNumbers c = c .flags ∷ findingNumbers (c .findings)
+
 -- the numbers of an image, or the decoder's refusal
 unfoldable pub identityList : List ℕ → Said (List ℕ)
 identityList s = onward refuses (identityOf s) (λ d. gives (identityNumbers d))
@@ -87,7 +105,11 @@ casNumbers s = onward refuses (timingsOf s) (λ t. gives (casList (t .«supporte
 unfoldable pub clocksList : List ℕ → Said (List ℕ)
 clocksList s = onward refuses (timingsOf s) (λ t. onward refuses (clockTableOf t) (λ c. gives (clockNumbers c)))
 
--- how many numbers are written into so much room: refusal 4 first, then the decoder's
+-- the numbers of a report, or the reader's refusal
+unfoldable pub reportList : List ℕ → Said (List ℕ)
+reportList s = onward refuses (contentOf s) (λ c. gives (reportNumbers c))
+
+-- how many numbers are written into so much room: refusal 4 first, then the decoder's or the reader's
 unfoldable pub listedIn : (need : ℕ) → Said (List ℕ) → (room : ℕ) → Said ℕ
 listedIn need numbers room = pick (ltb room need) (refused 4 0 0) (onward refuses numbers (λ l. gives (length l)))
 

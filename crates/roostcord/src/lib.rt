@@ -3,13 +3,14 @@
 ghost use mathlib.Core.Path.{_≡_};
 ghost use Prim.Native.Nat.{_<_, _≤_};
 ghost use lib.IntN.{pos, negℤ};
-ghost use lib.ListN.{length};
+ghost use lib.ListN.{length, take};
 ghost use Rattle.reading.specs.Pick.{pick};
 ghost use Rattle.reading.specs.Said.{told};
 ghost use Rattle.reading.specs.Lent.{laid};
+ghost use Rattle.rules.specs.Lanes.{severityNumber};
 ghost use Rattle.report.specs.Write.{lintReportOf, lintReportAfter};
 ghost use Rattle.roostcord.specs.Word.{refusalWord, wordOf};
-ghost use Rattle.roostcord.specs.Numbers.{identityNumbers, timingNumbers, clockNumbers, identityList, timingsList, casNumbers, clocksList, listedIn, listAfter};
+ghost use Rattle.roostcord.specs.Numbers.{identityNumbers, timingNumbers, clockNumbers, reportNumbers, identityList, timingsList, casNumbers, clocksList, reportList, listedIn, listAfter};
 ghost use Rattle.roostcord.specs.State.{countIn, arrivedIn, asked, short, freshIn, freshAfter, feedIn, feedAfter, takenIn};
 use decoders::clocks::ClockTable;
 use decoders::clocks::ClockTableAnswer;
@@ -18,7 +19,10 @@ use decoders::identity::IdentityAnswer;
 use decoders::timing::CasListAnswer;
 use decoders::timing::Timings;
 use decoders::timing::TimingsAnswer;
+use findings::Findings;
+use findings::Severity;
 use reading::Refusal;
+use report::ReadAnswer;
 use report::WriteAnswer;
 
 // Lints an image and writes its report: how many bytes.
@@ -30,6 +34,26 @@ pub extern "C" fn roostcord_lint(image: &[u8], report: &mut [u8]) -> i32
     match report::lint_report(image, report) {
         WriteAnswer::Bytes(n) => count_word(n),
         WriteAnswer::Refused(why) => refusal_word(why),
+    }
+}
+
+// Reads a report: its flags, then six numbers for each finding: code, severity (0 error, 1 warning, 2 info), sub and the three numbers.
+#[no_mangle]
+pub extern "C" fn roostcord_report(report: &[u8], out: &mut [u32]) -> i32
+    ensures answer { λ r. ⌜ r ≡ wordOf (listedIn 91 (reportList (now (report .entry))) (length (now (out .entry)))) ⌝ }
+    ensures later { λ r. ⌜ now (out .exit) ≡ listAfter 91 (reportList (now (report .entry))) (now (out .entry)) ⌝ }
+{
+    if out.len() < 91 {
+        return refusal_word(Refusal::ListTooShort);
+    }
+    let reading = report::read_findings(report);
+    let answer = reading.answer;
+    match answer {
+        ReadAnswer::Report { flags, count } => {
+            put_report(flags, reading.findings, out);
+            count_word(1 + 6 * count)
+        }
+        ReadAnswer::Refused(why) => refusal_word(why),
     }
 }
 
@@ -369,6 +393,38 @@ fn put_clocks(c: ClockTable, out: &mut [u32])
         c.trfcsb,
     ];
     put(&numbers, out);
+}
+
+// The numbers of a report, laid into a list that has room for the most.
+fn put_report(flags: u8, found: Findings, out: &mut [u32])
+    requires { ⌜ (found .count ≤ 15) × (91 ≤ length (now out)) ⌝ }
+    ensures { λ _. ⌜ now (out .exit) ≡ laid (reportNumbers (record { flags = flags; findings = take (found .count) (found .items) })) (now (out .entry)) ⌝ }
+{
+    let n = found.count;
+    out[0] = flags as u32;
+    let mut i: usize = 0;
+    while i < n {
+        let f = found.items[i];
+        let severity = f.severity;
+        let k = 1 + 6 * i;
+        out[k] = f.code as u32;
+        out[k + 1] = severity_number(severity);
+        out[k + 2] = f.sub as u32;
+        out[k + 3] = f.first;
+        out[k + 4] = f.second;
+        out[k + 5] = f.third;
+        i += 1;
+    }
+}
+
+fn severity_number(severity: Severity) -> u32
+    ensures { λ r. ⌜ r ≡ severityNumber severity ⌝ }
+{
+    match severity {
+        Severity::Error => 0,
+        Severity::Warning => 1,
+        Severity::Info => 2,
+    }
 }
 
 // Numbers over the front of a list that has room for them.
