@@ -32,11 +32,15 @@ enum {
   ROOSTCORD_WRONG_OFFSET = 5,     /* the piece's offset is not the count taken; first: that count */
   ROOSTCORD_TOO_LONG = 6,         /* the total would pass 2,048 bytes */
   ROOSTCORD_ZERO_CLOCK = 7,       /* a clock table with tCK 0 */
-  ROOSTCORD_BUFFER_TOO_SMALL = 8  /* the buffer is too small for the report */
+  ROOSTCORD_BUFFER_TOO_SMALL = 8, /* the buffer is too small for the report */
+  ROOSTCORD_REPORT_CUT = 9,       /* fewer bytes than the report says it has */
+  ROOSTCORD_REPORT_VERSION = 10,  /* a report of another version than 1 */
+  ROOSTCORD_REPORT_MALFORMED = 11 /* no report of version 1 */
 };
 
 enum {
   ROOSTCORD_REPORT_MAX = 215,     /* no report is longer */
+  ROOSTCORD_REPORT_NUMBERS = 91,  /* the flags and six numbers for each of fifteen findings: no report has more */
   ROOSTCORD_IDENTITY_COUNT = 18,
   ROOSTCORD_TIMINGS_COUNT = 30,
   ROOSTCORD_CAS_LATENCIES_MAX = 40,
@@ -50,6 +54,11 @@ enum {
  * decoded, bit 1 timings decoded); the number of findings; and for each finding fourteen bytes: code, sub, and three 32-bit
  * numbers, high byte first. */
 int32_t roostcord_lint(const uint8_t *image, size_t image_len, uint8_t *report, size_t report_len);
+
+/* Read a report, version 1: 1 + 6 * n numbers for n findings, into a list of at least 91 places. Refused 4, 9, 10, 11. In order: the
+ * flags; then for each finding its code, severity (0 error, 1 warning, 2 info), sub and three numbers. Bytes behind the report
+ * are not looked at. */
+int32_t roostcord_report(const uint8_t *report, size_t report_len, uint32_t *out, size_t out_len);
 
 /* Identity: 18 numbers. Refused 4, 1, 2, 3. In order: SPD bytes; revision major, minor; byte 2; module code; hybrid; gigabits per
  * die; package (1 monolithic, 2 dual-die, 3 3DS); dies; rows; columns; I/O width; bank groups; banks per group; ranks; asymmetric;

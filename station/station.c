@@ -10,25 +10,24 @@
 
 enum { CLEAN = 0, FOUND = 1, UNREADABLE = 2 };
 
-enum severity { ERROR, WARNING, INFO };
+enum { ERROR = 0 };
 
 static const char *const severity_name[] = {"error", "warning", "info"};
 
-/* The report's codes, from 1 on: name, severity of the rule, how many numbers are listed. */
+/* The report's codes, from 1 on: name, how many numbers are listed. */
 static const struct rule {
   const char *name;
-  enum severity severity;
   int numbers;
 } rules[] = {
-    {"non-integer-device-count", ERROR, 2},
-    {"trc-identity-mismatch", ERROR, 3},
-    {"timing-ordering-violation", ERROR, 2},
-    {"non-integer-cas-latency", WARNING, 2},
-    {"cas-latency-not-supported", ERROR, 1},
-    {"non-integer-clock-timing", WARNING, 2},
-    {"non-standard-data-rate", INFO, 1},
-    {"reserved-bytes-nonzero", WARNING, 2},
-    {"package-die-count-mismatch", ERROR, 1},
+    {"non-integer-device-count", 2},
+    {"trc-identity-mismatch", 3},
+    {"timing-ordering-violation", 2},
+    {"non-integer-cas-latency", 2},
+    {"cas-latency-not-supported", 1},
+    {"non-integer-clock-timing", 2},
+    {"non-standard-data-rate", 1},
+    {"reserved-bytes-nonzero", 2},
+    {"package-die-count-mismatch", 1},
 };
 
 struct options {
@@ -50,10 +49,6 @@ static const char help[] =
     "Status: 0 nothing of severity error (with --strict: no finding at all); 1 findings of that kind; 2 an image was\n"
     "refused or could not be read. With several images the largest counts.\n";
 
-static uint32_t big_endian(const uint8_t *at) {
-  return (uint32_t)at[0] << 24 | (uint32_t)at[1] << 16 | (uint32_t)at[2] << 8 | at[3];
-}
-
 /* A decoder's line: ok, or refused with the number and what it carries. */
 static void print_decoder(const char *name, int32_t answer) {
   if (!ROOSTCORD_REFUSED(answer)) {
@@ -67,20 +62,19 @@ static void print_decoder(const char *name, int32_t answer) {
   printf("\n");
 }
 
-/* The findings of a report, a line each. Answers whether one of them counts for the status. */
-static bool print_findings(const uint8_t *report, bool strict) {
+/* The findings of a report as numbers, a line each. Answers whether one of them counts for the status. */
+static bool print_findings(const uint32_t *numbers, int32_t count, bool strict) {
   bool counts = false;
-  int n = report[4];
-  for (int i = 0; i < n; i++) {
-    const uint8_t *f = report + 5 + 14 * i;
+  for (int32_t i = 1; i < count; i += 6) {
+    const uint32_t *f = numbers + i; /* code, severity, sub, three numbers */
     const struct rule *rule = &rules[f[0] - 1];
-    printf("%s %s", rule->name, severity_name[rule->severity]);
-    if (f[1] != 0) printf(" %d", f[1]);
-    for (int k = 0; k < rule->numbers; k++) printf(" %lu", (unsigned long)big_endian(f + 2 + 4 * k));
+    printf("%s %s", rule->name, severity_name[f[1]]);
+    if (f[2] != 0) printf(" %lu", (unsigned long)f[2]);
+    for (int k = 0; k < rule->numbers; k++) printf(" %lu", (unsigned long)f[3 + k]);
     printf("\n");
-    if (strict || rule->severity == ERROR) counts = true;
+    if (strict || f[1] == ERROR) counts = true;
   }
-  printf("findings %d\n", n);
+  printf("findings %ld\n", (long)(count / 6));
   return counts;
 }
 
@@ -153,7 +147,7 @@ static int lint_file(const char *path, const struct options *options, bool name_
     fprintf(stderr, "station: %s: more than %d bytes\n", shown, ROOSTCORD_IMAGE_MAX);
     return UNREADABLE;
   }
-  uint32_t identity[ROOSTCORD_IDENTITY_COUNT], timings[ROOSTCORD_TIMINGS_COUNT];
+  uint32_t identity[ROOSTCORD_IDENTITY_COUNT], timings[ROOSTCORD_TIMINGS_COUNT], numbers[ROOSTCORD_REPORT_NUMBERS];
   uint8_t report[ROOSTCORD_REPORT_MAX];
   int32_t decoded = roostcord_pieces_identity(state, sizeof state, identity, ROOSTCORD_IDENTITY_COUNT);
   int32_t timed = roostcord_pieces_timings(state, sizeof state, timings, ROOSTCORD_TIMINGS_COUNT);
@@ -162,7 +156,9 @@ static int lint_file(const char *path, const struct options *options, bool name_
   print_decoder("identity", decoded);
   print_decoder("timings", timed);
   if (ROOSTCORD_REFUSED(written)) return UNREADABLE; /* no report is longer than the buffer */
-  bool counts = print_findings(report, options->strict);
+  int32_t count = roostcord_report(report, (size_t)written, numbers, ROOSTCORD_REPORT_NUMBERS);
+  if (ROOSTCORD_REFUSED(count)) return UNREADABLE; /* what is written is read back */
+  bool counts = print_findings(numbers, count, options->strict);
   if (options->timings) print_timings(state);
   if (ROOSTCORD_REFUSED(decoded) || ROOSTCORD_REFUSED(timed)) return UNREADABLE;
   return counts ? FOUND : CLEAN;

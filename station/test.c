@@ -44,6 +44,82 @@ static int all(const uint8_t *at, size_t n, uint8_t value) {
 
 static int same(const void *a, const void *b, size_t n) { return n == 0 || memcmp(a, b, n) == 0; }
 
+/* A report that must be refused with that number, read from bytes that end at a guard page: nothing is written. */
+static void refused_report(const uint8_t *report, size_t n, int32_t number) {
+  uint32_t out[ROOSTCORD_REPORT_NUMBERS];
+  uint8_t *edge = guarded(n);
+  if (n) memcpy(edge, report, n);
+  memset(out, 0xA5, sizeof out);
+  CHECK(roostcord_report(edge, n, out, ROOSTCORD_REPORT_NUMBERS) == -number);
+  CHECK(all((uint8_t *)out, sizeof out, 0xA5));
+  release(edge, n);
+}
+
+/* A report of n bytes, as it was written, against the numbers read of it: into lists of every length, and with bytes behind it. */
+static void report_reads_back(const uint8_t *report, size_t n) {
+  static const uint32_t severity_of[] = {0, 0, 0, 0, 1, 0, 1, 2, 1, 0}; /* by code, from 1 on */
+  uint8_t *edge = guarded(n), more[256];
+  memcpy(edge, report, n);
+  memset(more, 0xFF, sizeof more);
+  memcpy(more, report, n);
+  int32_t count = 1 + 6 * report[4];
+  for (size_t len = 0; len <= ROOSTCORD_REPORT_NUMBERS + 2; len++) {
+    uint32_t *out = (uint32_t *)guarded(4 * len), again[ROOSTCORD_REPORT_NUMBERS + 2];
+    if (len) memset(out, 0xA5, 4 * len);
+    memset(again, 0xA5, sizeof again);
+    int32_t a = roostcord_report(edge, n, out, len);
+    CHECK(a == (len < ROOSTCORD_REPORT_NUMBERS ? -ROOSTCORD_LIST_TOO_SHORT : count));
+    CHECK(roostcord_report(more, sizeof more, again, len) == a && same(out, again, 4 * len));
+    size_t put = a < 0 ? 0 : (size_t)a;
+    CHECK(len == 0 || all((uint8_t *)(out + put), 4 * (len - put), 0xA5));
+    CHECK(put == 0 || out[0] == report[3]);
+    for (size_t i = 1; i < put; i += 6) {
+      const uint8_t *f = report + 5 + 14 * (i / 6);
+      CHECK(out[i] == f[0] && out[i + 1] == severity_of[f[0]] && out[i + 2] == f[1]);
+      for (size_t k = 0; k < 3; k++) {
+        const uint8_t *b = f + 2 + 4 * k;
+        CHECK(out[i + 3 + k] == ((uint32_t)b[0] << 24 | (uint32_t)b[1] << 16 | (uint32_t)b[2] << 8 | b[3]));
+      }
+    }
+    release((uint8_t *)out, 4 * len);
+  }
+  release(edge, n);
+}
+
+/* The refusals of reading: a report that is cut anywhere, of another version, or damaged. */
+static void reports_refused(const uint8_t *report, size_t n) {
+  uint8_t bad[256];
+  for (size_t len = 0; len < n; len++) refused_report(report, len, ROOSTCORD_REPORT_CUT);
+  memcpy(bad, report, n);
+  bad[3] = 4;
+  refused_report(bad, n, ROOSTCORD_REPORT_MALFORMED);
+  bad[2] = 2; /* the version is told before the flags, and the length before both */
+  refused_report(bad, n, ROOSTCORD_REPORT_VERSION);
+  refused_report(bad, n - 1, ROOSTCORD_REPORT_CUT);
+  memcpy(bad, report, n);
+  bad[4]++;
+  refused_report(bad, n, ROOSTCORD_REPORT_MALFORMED);
+  if (report[4] != 0) { /* a code outside the table */
+    memcpy(bad, report, n);
+    bad[5] = 10;
+    refused_report(bad, n, ROOSTCORD_REPORT_MALFORMED);
+  }
+  static const uint8_t none[] = {0, 0};
+  refused_report(none, 2, ROOSTCORD_REPORT_MALFORMED);
+  CHECK(roostcord_report(NULL, 0, NULL, 0) == -ROOSTCORD_LIST_TOO_SHORT);
+}
+
+/* Fifteen findings, the most: ninety-one numbers. */
+static void largest_report(void) {
+  uint8_t report[ROOSTCORD_REPORT_MAX] = {0, 213, 1, 3, 15};
+  for (int i = 0; i < 15; i++) {
+    uint8_t *f = report + 5 + 14 * i;
+    f[0] = 8, f[4] = 1, f[5] = (uint8_t)i, f[9] = 0xFF; /* a reserved byte at 256 + i that is 255 */
+  }
+  report_reads_back(report, sizeof report);
+  reports_refused(report, sizeof report);
+}
+
 /* The report of an image into buffers of every length up to 216, on the heap and at a guard page. */
 static void every_report_length(const uint8_t *image, size_t n) {
   uint8_t whole[256];
@@ -52,6 +128,8 @@ static void every_report_length(const uint8_t *image, size_t n) {
   CHECK(size >= 5 && size <= ROOSTCORD_REPORT_MAX && (size - 5) % 14 == 0);
   CHECK(all(whole + size, sizeof whole - (size_t)size, 0xA5));
   CHECK(whole[0] * 256 + whole[1] == size - 2 && whole[2] == 1 && whole[3] <= 3 && whole[4] * 14 + 5 == size);
+  report_reads_back(whole, (size_t)size);
+  reports_refused(whole, (size_t)size);
   for (size_t len = 0; len <= 216; len++) {
     uint8_t *heap = malloc(len ? len : 1), *edge = guarded(len);
     memset(heap, 0xA5, len ? len : 1);
@@ -169,6 +247,7 @@ int main(int argc, char **argv) {
     }
     pieces(image, n < 2048 ? n : 2048);
   }
+  largest_report();
   printf("test: %ld checks, %ld faults\n", checks, faults);
   return faults != 0;
 }
