@@ -45,6 +45,16 @@ fn clean(count: usize) -> Vec<Image> {
     (0..count).map(one).collect()
 }
 
+/// The reports of mixed images, each at the front of its place.
+fn reports(count: usize) -> Vec<Image> {
+    let one = |image: &Image| {
+        let mut report = [0; LEN];
+        ours::lint(image, &mut report);
+        report
+    };
+    mixed(count).iter().map(one).collect()
+}
+
 // --- What is timed: one call on one image. The buffers that are filled are made once, before --------------------------------
 
 fn lint_ours() -> impl FnMut(&Image) {
@@ -93,6 +103,15 @@ fn timings_ours() -> impl FnMut(&Image) {
 fn timings_rust() -> impl FnMut(&Image) {
     |image| {
         let _ = black_box(spdr::decode_timings(black_box(image)));
+    }
+}
+
+/// A report read into numbers. The Rust has no report.
+fn report_ours() -> impl FnMut(&Image) {
+    let mut out = [0; ours::REPORT_NUMBERS];
+    move |report| {
+        black_box(ours::report(black_box(report), black_box(&mut out)));
+        black_box(&out);
     }
 }
 
@@ -221,6 +240,7 @@ fn run_family(name: &str, passes: usize) -> bool {
         "timings-ours" => run(mixed, passes, timings_ours()),
         "timings-rust" => run(mixed, passes, timings_rust()),
         "bursts-ours" => run(mixed, passes, bursts_ours()),
+        "report-ours" => run(reports, passes, report_ours()),
         "nothing" => run(mixed, passes, nothing()),
         _ => return false,
     }
@@ -343,12 +363,23 @@ fn print_bursts(own: Option<f64>) {
     );
 }
 
-/// The arguments of a call on an image, or on a state that has taken all of it but the last burst.
-fn arguments(name: &str, image: &Image, state: &mut [u8], out: &mut [u32]) -> [usize; 5] {
+/// Reading the reports of mixed images. The Rust has nothing beside it, so the second side is the bench's own loop.
+fn print_reading(own: Option<f64>) {
+    let reports = reports(SHUFFLED);
+    let fixed = compare(&reports[..FIXED], false, report_ours(), nothing()).first_ns;
+    let shuffled = compare(&reports, true, report_ours(), nothing()).first_ns;
+    println!("| ours alone | fixed ns | shuffled ns | instructions |");
+    println!("|---|---|---|---|");
+    println!("| reading a report; mixed | {fixed:.0} | {shuffled:.0} | {} |", instruction_cell("report-ours", own));
+}
+
+/// The arguments of a call on an image, on its report, or on a state that has taken all of it but the last burst.
+fn arguments(name: &str, image: &Image, report: &Image, state: &mut [u8], out: &mut [u32]) -> [usize; 5] {
     let at = state.as_mut_ptr() as usize;
     // So many places in each element size: the buffer is long enough in the widest.
     let filled = out.as_mut_ptr() as usize;
     match name {
+        "roostcord_report" => [report.as_ptr() as usize, LEN, filled, out.len(), 0],
         "roostcord_pieces_fresh" | "roostcord_pieces_taken" => [at, state.len(), 0, 0, 0],
         "roostcord_pieces_feed" => [at, state.len(), LEN - 16, image[LEN - 16..].as_ptr() as usize, 16],
         _ if name.starts_with("roostcord_pieces") => [at, state.len(), filled, out.len(), 0],
@@ -361,13 +392,13 @@ fn print_stack() {
     let mut room = stack::Stack::new();
     let symbols = ours::symbols();
     let mut most = [0; ours::SYMBOLS];
-    for image in mixed(FIXED) {
+    for (image, report) in mixed(FIXED).iter().zip(&reports(FIXED)) {
         for (most, (name, function)) in most.iter_mut().zip(symbols) {
             let mut state = [0; ours::STATE_SIZE];
             ours::pieces_fresh(&mut state);
             ours::pieces_feed(&mut state, 0, &image[..LEN - 16]);
             let mut out = [0; ours::REPORT_MAX];
-            let arguments = arguments(name, &image, &mut state, &mut out);
+            let arguments = arguments(name, image, report, &mut state, &mut out);
             // SAFETY: the arguments are those of station/roostcord.h, and nothing else uses the buffers meanwhile.
             *most = (*most).max(unsafe { room.used(&stack::Call { function, arguments }) });
             black_box((&state, &out));
@@ -396,6 +427,8 @@ fn main() {
     print_against_rust(own);
     println!();
     print_bursts(own);
+    println!();
+    print_reading(own);
     println!();
     print_stack();
 }

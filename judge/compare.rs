@@ -1,9 +1,9 @@
 //! One image, asked of both sides: every number of both records, the refusals with what they carry, the CAS list, and every
 //! finding in order. Our answers come from the C library; the Rust's are put into document 01's numbers here.
 //!
-//! The report form has no severity, so the Rust's severity of each finding is held against document 01's for its code. The
-//! severities as Roostcord itself answers them are compared by the program `replay`. The clock table, which the Rust does not
-//! have, is held against document 01's definition of it over the Rust's times.
+//! The report form has no severity, so the Rust's severity of each finding is held against document 01's for its code; and so is
+//! the severity that the library answers when it reads the report back, with all else that the report says. The clock table,
+//! which the Rust does not have, is held against document 01's definition of it over the Rust's times.
 
 use crate::images::Rng;
 use crate::ours;
@@ -323,6 +323,23 @@ fn parsed(word: i32, report: &[u8]) -> Result<(u8, Vec<Row>), String> {
     Ok((flags, findings.collect()))
 }
 
+/// The library reads its own report back as `parsed` did.
+fn read_back(report: &[u8], flags: u8, findings: &[Row]) -> Result<(), String> {
+    let mut numbers = [u32::from(STAY); ours::REPORT_NUMBERS];
+    let word = ours::report(report, &mut numbers);
+    let six = |&[code, sub, first, second, third]: &Row| {
+        let severity = match SEVERITIES[code as usize] {
+            Some(Severity::Error) => 0,
+            Some(Severity::Warning) => 1,
+            Some(Severity::Info) => 2,
+            _ => u32::MAX,
+        };
+        [code, severity, sub, first, second, third]
+    };
+    let wanted: Vec<u32> = std::iter::once(flags.into()).chain(findings.iter().flat_map(six)).collect();
+    list("report read back", word, &numbers, Ok(&wanted))
+}
+
 fn compare_findings(image: &[u8], ours: &Answers, flags: u8, verdict: Verdict) -> Result<(), String> {
     let mut rust: Vec<Row> = Vec::with_capacity(16);
     let mut severe = Ok(());
@@ -345,7 +362,7 @@ fn compare_findings(image: &[u8], ours: &Answers, flags: u8, verdict: Verdict) -
         let i = findings.iter().zip(&rust).take_while(|(a, b)| a == b).count();
         return Err(format!("finding {i}: {:?}, the Rust's {:?}", findings.get(i), rust.get(i)));
     }
-    Ok(())
+    read_back(&ours.report[..ours.words[0] as usize], got, &findings)
 }
 
 /// How an image is cut into pieces.

@@ -7,12 +7,14 @@
 use std::ffi::c_void;
 
 pub const REPORT_MAX: usize = 215;
+pub const REPORT_NUMBERS: usize = 91;
 pub const STATE_SIZE: usize = 512;
 pub const IMAGE_MAX: usize = 2048;
 
 mod c {
     unsafe extern "C" {
         pub fn roostcord_lint(image: *const u8, n: usize, report: *mut u8, room: usize) -> i32;
+        pub fn roostcord_report(report: *const u8, n: usize, out: *mut u32, room: usize) -> i32;
         pub fn roostcord_identity(image: *const u8, n: usize, out: *mut u32, room: usize) -> i32;
         pub fn roostcord_timings(image: *const u8, n: usize, out: *mut u32, room: usize) -> i32;
         pub fn roostcord_cas_latencies(image: *const u8, n: usize, out: *mut u16, room: usize) -> i32;
@@ -41,6 +43,7 @@ macro_rules! questions {
 
 questions! {
     lint = roostcord_lint(u8);
+    report = roostcord_report(u32);
     identity = roostcord_identity(u32);
     timings = roostcord_timings(u32);
     cas_latencies = roostcord_cas_latencies(u16);
@@ -70,7 +73,7 @@ pub fn pieces_taken(state: &[u8]) -> i32 {
     unsafe { c::roostcord_pieces_taken(state.as_ptr(), state.len()) }
 }
 
-pub const SYMBOLS: usize = 13;
+pub const SYMBOLS: usize = 14;
 
 /// Every call by its name, for measuring its stack.
 pub fn symbols() -> [(&'static str, *const c_void); SYMBOLS] {
@@ -79,6 +82,7 @@ pub fn symbols() -> [(&'static str, *const c_void); SYMBOLS] {
     }
     named![
         roostcord_lint,
+        roostcord_report,
         roostcord_identity,
         roostcord_timings,
         roostcord_cas_latencies,
