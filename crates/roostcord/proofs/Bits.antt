@@ -17,10 +17,12 @@ use Rattle.decoders.specs.Timing.{timingsAt, timingsOf}
 use Rattle.decoders.specs.Clocks.{clockTableOf}
 use Rattle.decoders.specs.declared.timing.Timings.{Timings}
 use Rattle.rules.specs.Lint.{findingsOf}
-use Rattle.report.specs.Form.{restOf}
+use Rattle.rules.specs.Table.{allIn}
+use Rattle.report.specs.Form.{restOf, findingsIn}
+use Rattle.report.specs.Read.{lengthIn, contentOf}
 use Rattle.report.specs.Write.{lintReportOf}
 use Rattle.pieces.specs.Fed.{Feeding, fedBy, longest}
-use Rattle.roostcord.specs.Numbers.{identityList, timingsList, casNumbers, clocksList, listedIn}
+use Rattle.roostcord.specs.Numbers.{identityList, timingsList, casNumbers, clocksList, reportList, listedIn}
 use Rattle.roostcord.specs.Word.{refusalWord}
 use Rattle.roostcord.specs.State.{short, countIn, stateIn, arrivedIn, asked, freshIn, feedIn, takenIn}
 use Rattle.roostcord.proofs.Once.{InBits, word-once}
@@ -108,10 +110,25 @@ listed-fits : (need : ℕ) (numbers : Said (List ℕ)) (room : ℕ) → Fits num
 unfolding listedIn
 listed-fits need numbers room h = either Fits (ltb room need) plain (on-fits numbers _ h (λ l. tt))
 
+content-fits : (s : List ℕ) → Fits (contentOf s)
+unfolding contentOf
+content-fits s =
+    either Fits (ltb (length s) 2) plain
+    (either Fits (ltb (length s) (2 + lengthIn s)) plain
+    (either Fits (eqb (lengthIn s) 0) plain
+    (either Fits (eqb (getD s 2 0) 1)
+    (either Fits (ltb (lengthIn s) 3) plain
+    (either Fits (ltb 3 (getD s 3 0)) plain
+    (either Fits (ltb 15 (getD s 4 0)) plain
+    (either Fits (eqb (lengthIn s) (restOf (getD s 4 0)))
+    (either Fits (allIn (findingsIn (drop 5 s) (getD s 4 0))) tt plain)
+    plain))))
+    plain)))
+
 abbrev pub AllBytes : List ℕ → Type 0
 AllBytes s = (i : ℕ) → getD s i 0 < 256
 
--- ---- the calls on an image
+-- ---- the calls on an image, and on a report
 module _ (s : List ℕ) (room : ℕ) where
   pub lint-bits : Fits (lintReportOf s room)
   unfolding lintReportOf
@@ -132,6 +149,10 @@ module _ (s : List ℕ) (room : ℕ) where
   pub clocks-bits : Fits (listedIn 9 (clocksList s) room)
   unfolding clocksList timingsOf
   clocks-bits = listed-fits 9 _ room (on-fits (timingsOf s) _ (timings-fits (view s)) (λ t. on-fits (clockTableOf t) _ (table-fits t) (λ c. tt)))
+
+  pub report-bits : Fits (listedIn 91 (reportList s) room)
+  unfolding reportList
+  report-bits = listed-fits 91 _ room (on-fits (contentOf s) _ (content-fits s) (λ c. tt))
 
 -- ---- the calls on a state in lent bytes: what has arrived are bytes, so the above holds of it
 bytes-take : (n : ℕ) (s : List ℕ) → AllBytes s → AllBytes (take n s)
