@@ -11,7 +11,7 @@ help:
 	@echo 'make test       prove every crate, try every must-fail edit, run every program and test (minutes)'
 	@echo 'make judge      compare with the Rust linter spdr: make judge IMAGES=number SPDR=place of its sources (a minute)'
 	@echo 'make bench      time it against spdr, as Markdown: make bench SPDR=place (half a minute)'
-	@echo 'make strength   change the code in some 420 small ways and have the prover judge each (an hour or two; docs/strength.txt)'
+	@echo 'make strength   change the code in some 440 small ways and have the prover judge each (an hour or two; docs/strength.txt)'
 	@echo 'make surface    hold the public calls to docs/PROMISES.md (a second)'
 	@echo 'make list       hold the list that replay runs on to the Rust linter, where that is at hand (SPDR=place)'
 	@echo 'make trace      hold docs/TRACE.md and docs/TRUST.md to the files that they cite (a second)'
