@@ -1,7 +1,7 @@
 -- A code field taken with a mask is a remainder by a power of two, and bytes joined by shifts are a sum: one law for every width.
 -- Assumes nothing.
 use Prim.Native.Nat.{ℕ, zero, suc, _+_, _-_, _*_, _/_, _^_, _%_, _<_}
-use mathlib.Core.Path.{_≡_, refl, sym}
+use mathlib.Core.Path.{_≡_, refl, sym, ap, _∙_}
 use mathlib.Core.Bool.{not}
 use native.Mathlib.Nat.{mod-lt, mod-eq-of-lt, add-comm}
 use native.Mathlib.Omega.{arith}
@@ -9,6 +9,7 @@ use borrow.Author.Tests.{eq-eqb, ne-eqb}
 use lib.Dec.{eqb}
 use lib.Pow.{pow-pos}
 use lib.Bits.{bitAnd, bitOr, and-mask, and-high, or-shifted-r}
+use Rattle.reading.specs.Said.{Said}
 
 -- the remainder that a definition says is the mask that the code takes
 pub masked : (w n : ℕ) → n % 2 ^ w ≡ bitAnd n (2 ^ w - 1)
@@ -35,3 +36,7 @@ low-bit n = rw (and-mask n 1) (odd (n % 2) (mod-lt n (omega arith)))
 -- a byte shifted above a number that has only the bits below it, and joined by `|`, is a sum
 pub joined : (k w m b : ℕ) → m < 2 ^ k → b * 2 ^ k < 2 ^ w → bitOr m (b * 2 ^ k % 2 ^ w) ≡ m + b * 2 ^ k
 joined k w m b h f = rw (mod-eq-of-lt f, or-shifted-r b k m h) (add-comm (b * 2 ^ k) m)
+
+-- an answer r that says x, and the case e that a match found in it
+pub said : {A E : Type 0} (say : E → Said A) {r e : E} {x : Said A} → say r ≡ x → r ≡ e → x ≡ say e
+said say p q = sym p ∙ ap say q

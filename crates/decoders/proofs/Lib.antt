@@ -3,3 +3,4 @@ pub mod Listing
 pub mod Least
 pub mod Once
 pub mod Reach
+pub mod Parts

@@ -12,6 +12,15 @@ use Rattle.decoders.specs.declared.clocks.ClockTableAnswer.the-variants 
 use Rattle.decoders.specs.declared.identity.IdentityAndBase.{IdentityAndBase}
 use Rattle.decoders.specs.declared.identity.IdentityAnswer.{IdentityAnswer}
 use Rattle.decoders.specs.declared.identity.IdentityAnswer.the-variants as identity
+use Rattle.decoders.specs.declared.identity.Base.{Base}
+use Rattle.decoders.specs.declared.identity.BaseAnswer.{BaseAnswer}
+use Rattle.decoders.specs.declared.identity.BaseAnswer.the-variants as a-base
+use Rattle.decoders.specs.declared.identity.Sdram.{Sdram}
+use Rattle.decoders.specs.declared.identity.SdramAnswer.{SdramAnswer}
+use Rattle.decoders.specs.declared.identity.SdramAnswer.the-variants as an-sdram
+use Rattle.decoders.specs.declared.identity.Organization.{Organization}
+use Rattle.decoders.specs.declared.identity.OrganizationAnswer.{OrganizationAnswer}
+use Rattle.decoders.specs.declared.identity.OrganizationAnswer.the-variants as an-organization
 use Rattle.decoders.specs.declared.identity.NumberAnswer.{NumberAnswer}
 use Rattle.decoders.specs.declared.identity.NumberAnswer.the-variants as a-number
 use Rattle.decoders.specs.declared.identity.CountAnswer.{CountAnswer}
@@ -53,6 +62,19 @@ clockTableSaid (clocks.Refused why) = refuses (told why)
 abbrev pub identitySaid : IdentityAnswer → Said IdentityAndBase
 identitySaid (identity.Decoded d) = gives d
 identitySaid (identity.Refused why) = refuses (told why)
+
+-- the parts of the identity
+abbrev pub baseSaid : BaseAnswer → Said Base
+baseSaid (a-base.Base b) = gives b
+baseSaid (a-base.Refused why) = refuses (told why)
+
+abbrev pub sdramSaid : SdramAnswer → Said Sdram
+sdramSaid (an-sdram.Sdram d) = gives d
+sdramSaid (an-sdram.Refused why) = refuses (told why)
+
+abbrev pub organizationSaid : OrganizationAnswer → Said Organization
+organizationSaid (an-organization.Organization o) = gives o
+organizationSaid (an-organization.Refused why) = refuses (told why)
 
 -- the fields of the identity
 abbrev pub numberSaid : NumberAnswer → Said ℕ

@@ -5,7 +5,8 @@ ghost use lib.Dec.{eqb};
 ghost use Rattle.decoders.specs.Codes.{sizeOf, revisionOf, deviceOf, moduleOf, densityOf, packageOf, ioWidthOf, bankGroupsOf, banksOf, busWidthOf, channelsOf};
 ghost use Rattle.decoders.specs.Codes.{deviceCode, moduleCode, gigabitsIn, bitsIn, groupsIn, banksIn, packageCode};
 ghost use Rattle.decoders.specs.Identity.{identityOf};
-ghost use Rattle.decoders.specs.Answers.{numberSaid, countSaid, deviceSaid, moduleSaid, densitySaid, packageSaid, ioWidthSaid, bankGroupsSaid, banksSaid, identitySaid};
+ghost use Rattle.decoders.specs.Parts.{baseOf, sdramOf, organizationOf};
+ghost use Rattle.decoders.specs.Answers.{numberSaid, countSaid, deviceSaid, moduleSaid, densitySaid, packageSaid, ioWidthSaid, bankGroupsSaid, banksSaid, baseSaid, sdramSaid, organizationSaid, identitySaid};
 use reading::Refusal;
 
 // Byte offsets in the image.
@@ -30,7 +31,7 @@ const OFF_MODULE_ORGANIZATION: usize = 234;
 const OFF_MEMORY_CHANNEL_BUS_WIDTH: usize = 235;
 
 // Up to the bus width.
-const IDENTITY_BYTES: usize = 236;
+pub const IDENTITY_BYTES: usize = 236;
 
 // SPD revision, from byte 1: two plain nibbles.
 pub struct SpdRevision {
@@ -237,6 +238,48 @@ pub enum IdentityAnswer {
     Refused(Refusal),
 }
 
+// Its three parts: bytes 0 to 3, 4 to 7, and 234 and 235. Refused comes first in their answers, which has the compiler expect the other case.
+pub struct Base {
+    pub spd_bytes_total: u16,
+    pub spd_revision: SpdRevision,
+    pub device_type: DeviceType,
+    pub module_type: ModuleType,
+    pub hybrid: bool,
+}
+
+pub struct Sdram {
+    pub density_per_die: DensityPerDie,
+    pub package_type: PackageType,
+    pub die_count: u8,
+    pub row_address_bits: u8,
+    pub column_address_bits: u8,
+    pub io_width: IoWidth,
+    pub bank_groups: BankGroups,
+    pub banks_per_bank_group: BanksPerBankGroup,
+}
+
+pub struct Organization {
+    pub package_ranks_per_channel: u8,
+    pub rank_mix_asymmetric: bool,
+    pub channels_per_dimm: u8,
+    pub primary_bus_width_bits: u16,
+}
+
+pub enum BaseAnswer {
+    Refused(Refusal),
+    Base(Base),
+}
+
+pub enum SdramAnswer {
+    Refused(Refusal),
+    Sdram(Sdram),
+}
+
+pub enum OrganizationAnswer {
+    Refused(Refusal),
+    Organization(Organization),
+}
+
 // A package and the dies in it.
 struct Package {
     package_type: PackageType,
@@ -289,7 +332,7 @@ enum BanksAnswer {
     Refused(Refusal),
 }
 
-// The identity and base configuration of an image. The length is tested first, then the codes in document 01's order.
+// The identity and base configuration of an image. The length is tested first, then the codes in document 01's order, part by part.
 pub fn decode_identity_and_base(image: &[u8]) -> IdentityAnswer
     ensures { λ r. ⌜ identitySaid r ≡ identityOf (now (image .entry)) ⌝ }
 {
@@ -297,62 +340,107 @@ pub fn decode_identity_and_base(image: &[u8]) -> IdentityAnswer
         return IdentityAnswer::Refused(Refusal::Truncated);
     }
     let byte0 = reading::byte_or_zero(image, OFF_SPD_SIZE);
-    let spd_bytes_total = match decode_spd_bytes_total(byte0) {
-        NumberAnswer::Number(value) => value,
-        NumberAnswer::Refused(why) => return IdentityAnswer::Refused(why),
-    };
+    let byte1 = reading::byte_or_zero(image, OFF_SPD_REVISION);
     let byte2 = reading::byte_or_zero(image, OFF_DEVICE_TYPE);
-    let device_type = match decode_device_type(byte2) {
-        DeviceAnswer::Device(value) => value,
-        DeviceAnswer::Refused(why) => return IdentityAnswer::Refused(why),
-    };
     let byte3 = reading::byte_or_zero(image, OFF_MODULE_TYPE);
-    let module_type = match decode_module_type(byte3) {
-        ModuleAnswer::Module(value) => value,
-        ModuleAnswer::Refused(why) => return IdentityAnswer::Refused(why),
+    let base = match decode_base(byte0, byte1, byte2, byte3) {
+        BaseAnswer::Base(value) => value,
+        BaseAnswer::Refused(why) => return IdentityAnswer::Refused(why),
     };
     let byte4 = reading::byte_or_zero(image, OFF_FIRST_DENSITY_PACKAGE);
-    let density_per_die = match decode_density_per_die(byte4) {
-        DensityAnswer::Density(value) => value,
-        DensityAnswer::Refused(why) => return IdentityAnswer::Refused(why),
-    };
-    let package = match decode_package(byte4) {
-        PackageAnswer::Package(value) => value,
-        PackageAnswer::Refused(why) => return IdentityAnswer::Refused(why),
-    };
-    let byte6 = reading::byte_or_zero(image, OFF_FIRST_IO_WIDTH);
-    let io_width = match decode_io_width(byte6) {
-        IoWidthAnswer::Width(value) => value,
-        IoWidthAnswer::Refused(why) => return IdentityAnswer::Refused(why),
-    };
-    let byte7 = reading::byte_or_zero(image, OFF_FIRST_BANK_GROUPS);
-    let bank_groups = match decode_bank_groups(byte7) {
-        BankGroupsAnswer::Groups(value) => value,
-        BankGroupsAnswer::Refused(why) => return IdentityAnswer::Refused(why),
-    };
-    let banks_per_bank_group = match decode_banks_per_bank_group(byte7) {
-        BanksAnswer::Banks(value) => value,
-        BanksAnswer::Refused(why) => return IdentityAnswer::Refused(why),
-    };
-    let byte235 = reading::byte_or_zero(image, OFF_MEMORY_CHANNEL_BUS_WIDTH);
-    let primary_bus_width_bits = match decode_primary_bus_width(byte235) {
-        NumberAnswer::Number(value) => value,
-        NumberAnswer::Refused(why) => return IdentityAnswer::Refused(why),
-    };
-    let channels_per_dimm = match decode_channels_per_dimm(byte235) {
-        CountAnswer::Count(value) => value,
-        CountAnswer::Refused(why) => return IdentityAnswer::Refused(why),
-    };
-    let byte1 = reading::byte_or_zero(image, OFF_SPD_REVISION);
     let byte5 = reading::byte_or_zero(image, OFF_FIRST_ADDRESSING);
+    let byte6 = reading::byte_or_zero(image, OFF_FIRST_IO_WIDTH);
+    let byte7 = reading::byte_or_zero(image, OFF_FIRST_BANK_GROUPS);
+    let sdram = match decode_sdram(byte4, byte5, byte6, byte7) {
+        SdramAnswer::Sdram(value) => value,
+        SdramAnswer::Refused(why) => return IdentityAnswer::Refused(why),
+    };
     let byte234 = reading::byte_or_zero(image, OFF_MODULE_ORGANIZATION);
-    let package_type = package.package_type;
+    let byte235 = reading::byte_or_zero(image, OFF_MEMORY_CHANNEL_BUS_WIDTH);
+    let organization = match decode_organization(byte234, byte235) {
+        OrganizationAnswer::Organization(value) => value,
+        OrganizationAnswer::Refused(why) => return IdentityAnswer::Refused(why),
+    };
+    let spd_revision = base.spd_revision;
+    let device_type = base.device_type;
+    let module_type = base.module_type;
+    let density_per_die = sdram.density_per_die;
+    let package_type = sdram.package_type;
+    let io_width = sdram.io_width;
+    let bank_groups = sdram.bank_groups;
+    let banks_per_bank_group = sdram.banks_per_bank_group;
     IdentityAnswer::Decoded(IdentityAndBase {
+        spd_bytes_total: base.spd_bytes_total,
+        spd_revision,
+        device_type,
+        module_type,
+        hybrid: base.hybrid,
+        density_per_die,
+        package_type,
+        die_count: sdram.die_count,
+        row_address_bits: sdram.row_address_bits,
+        column_address_bits: sdram.column_address_bits,
+        io_width,
+        bank_groups,
+        banks_per_bank_group,
+        package_ranks_per_channel: organization.package_ranks_per_channel,
+        rank_mix_asymmetric: organization.rank_mix_asymmetric,
+        channels_per_dimm: organization.channels_per_dimm,
+        primary_bus_width_bits: organization.primary_bus_width_bits,
+    })
+}
+
+// Bytes 0 to 3. A part is small enough to be compiled into each of its callers, which the whole is not.
+pub fn decode_base(byte0: u8, byte1: u8, byte2: u8, byte3: u8) -> BaseAnswer
+    ensures { λ r. ⌜ baseSaid r ≡ baseOf byte0 byte1 byte2 byte3 ⌝ }
+{
+    let spd_bytes_total = match decode_spd_bytes_total(byte0) {
+        NumberAnswer::Number(value) => value,
+        NumberAnswer::Refused(why) => return BaseAnswer::Refused(why),
+    };
+    let device_type = match decode_device_type(byte2) {
+        DeviceAnswer::Device(value) => value,
+        DeviceAnswer::Refused(why) => return BaseAnswer::Refused(why),
+    };
+    let module_type = match decode_module_type(byte3) {
+        ModuleAnswer::Module(value) => value,
+        ModuleAnswer::Refused(why) => return BaseAnswer::Refused(why),
+    };
+    BaseAnswer::Base(Base {
         spd_bytes_total,
         spd_revision: decode_spd_revision(byte1),
         device_type,
         module_type,
         hybrid: decode_hybrid(byte3),
+    })
+}
+
+// Bytes 4 to 7.
+pub fn decode_sdram(byte4: u8, byte5: u8, byte6: u8, byte7: u8) -> SdramAnswer
+    ensures { λ r. ⌜ sdramSaid r ≡ sdramOf byte4 byte5 byte6 byte7 ⌝ }
+{
+    let density_per_die = match decode_density_per_die(byte4) {
+        DensityAnswer::Density(value) => value,
+        DensityAnswer::Refused(why) => return SdramAnswer::Refused(why),
+    };
+    let package = match decode_package(byte4) {
+        PackageAnswer::Package(value) => value,
+        PackageAnswer::Refused(why) => return SdramAnswer::Refused(why),
+    };
+    let io_width = match decode_io_width(byte6) {
+        IoWidthAnswer::Width(value) => value,
+        IoWidthAnswer::Refused(why) => return SdramAnswer::Refused(why),
+    };
+    let bank_groups = match decode_bank_groups(byte7) {
+        BankGroupsAnswer::Groups(value) => value,
+        BankGroupsAnswer::Refused(why) => return SdramAnswer::Refused(why),
+    };
+    let banks_per_bank_group = match decode_banks_per_bank_group(byte7) {
+        BanksAnswer::Banks(value) => value,
+        BanksAnswer::Refused(why) => return SdramAnswer::Refused(why),
+    };
+    let package_type = package.package_type;
+    SdramAnswer::Sdram(Sdram {
         density_per_die,
         package_type,
         die_count: package.die_count,
@@ -361,6 +449,22 @@ pub fn decode_identity_and_base(image: &[u8]) -> IdentityAnswer
         io_width,
         bank_groups,
         banks_per_bank_group,
+    })
+}
+
+// Bytes 234 and 235.
+pub fn decode_organization(byte234: u8, byte235: u8) -> OrganizationAnswer
+    ensures { λ r. ⌜ organizationSaid r ≡ organizationOf byte234 byte235 ⌝ }
+{
+    let primary_bus_width_bits = match decode_primary_bus_width(byte235) {
+        NumberAnswer::Number(value) => value,
+        NumberAnswer::Refused(why) => return OrganizationAnswer::Refused(why),
+    };
+    let channels_per_dimm = match decode_channels_per_dimm(byte235) {
+        CountAnswer::Count(value) => value,
+        CountAnswer::Refused(why) => return OrganizationAnswer::Refused(why),
+    };
+    OrganizationAnswer::Organization(Organization {
         package_ranks_per_channel: decode_package_ranks(byte234),
         rank_mix_asymmetric: decode_rank_mix(byte234),
         channels_per_dimm,

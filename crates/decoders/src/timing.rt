@@ -49,7 +49,7 @@ const OFF_TWTR_S: usize = 88;
 const OFF_TRTP: usize = 91;
 
 // Up to the clock byte of tRTP.
-const TIMING_BYTES: usize = 94;
+pub const TIMING_BYTES: usize = 94;
 
 // A duration in picoseconds: every absolute time is kept so.
 pub struct Picoseconds(pub u32);
@@ -256,7 +256,7 @@ fn read_pair(image: &[u8], offset: usize) -> TimingPair
 }
 
 // The five bytes of the CAS latencies as a set.
-fn decode_cas_latencies(image: &[u8]) -> CasLatencies
+pub fn decode_cas_latencies(image: &[u8]) -> CasLatencies
     ensures { λ r. ⌜ r ≡ casAt (view (now (image .entry))) 24 ⌝ }
 {
     CasLatencies::from_bytes(
