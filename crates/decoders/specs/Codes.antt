@@ -22,16 +22,16 @@ use Rattle.decoders.specs.declared.identity.BanksPerBankGroup.{BanksPerB
 use Rattle.decoders.specs.declared.identity.BanksPerBankGroup.the-variants as banks
 
 -- a row of a table: x where the code is k, and else what the rows below say
-abbrev pub row : {A : Type 0} (code k : ℕ) → A → Said A → Said A
-row code k x below = pick (eqb code k) (gives x) below
+abbrev pub entry : {A : Type 0} (code k : ℕ) → A → Said A → Said A
+entry code k x below = pick (eqb code k) (gives x) below
 
 -- field 1, byte 0, bits 6-4: SPD bytes
 unfoldable pub sizeOf : ℕ → Said ℕ
 sizeOf code =
-    row code 1 256
-    (row code 2 512
-    (row code 3 1024
-    (row code 4 2048
+    entry code 1 256
+    (entry code 2 512
+    (entry code 3 1024
+    (entry code 4 2048
     (refused 3 1 code))))
 
 -- byte 1: major in the high four bits
@@ -40,89 +40,89 @@ revisionOf byte1 = record { major = byte1 / 16; minor = byte1 % 16 }
 
 -- byte 2: 0x12 is DDR5; any other is refused by 2, with the byte
 unfoldable pub deviceOf : ℕ → Said DeviceType
-deviceOf byte2 = row byte2 0x12 Ddr5 (refused 2 byte2 0)
+deviceOf byte2 = entry byte2 0x12 Ddr5 (refused 2 byte2 0)
 
 -- field 2, byte 3, bits 3-0: module type
 unfoldable pub moduleOf : ℕ → Said ModuleType
 moduleOf code =
-    row code 1 Rdimm
-    (row code 2 Udimm
-    (row code 3 Sodimm
-    (row code 4 Lrdimm
-    (row code 5 Cudimm
-    (row code 6 Csoudimm
-    (row code 7 Mrdimm
-    (row code 8 Camm2
-    (row code 10 Ddimm
-    (row code 11 SolderDown
+    entry code 1 Rdimm
+    (entry code 2 Udimm
+    (entry code 3 Sodimm
+    (entry code 4 Lrdimm
+    (entry code 5 Cudimm
+    (entry code 6 Csoudimm
+    (entry code 7 Mrdimm
+    (entry code 8 Camm2
+    (entry code 10 Ddimm
+    (entry code 11 SolderDown
     (refused 3 2 code))))))))))
 
 -- field 3, byte 4, bits 4-0: gigabits per die
 unfoldable pub densityOf : ℕ → Said DensityPerDie
 densityOf code =
-    row code 1 Gb4
-    (row code 2 Gb8
-    (row code 3 Gb12
-    (row code 4 Gb16
-    (row code 5 Gb24
-    (row code 6 Gb32
-    (row code 7 Gb48
-    (row code 8 Gb64
+    entry code 1 Gb4
+    (entry code 2 Gb8
+    (entry code 3 Gb12
+    (entry code 4 Gb16
+    (entry code 5 Gb24
+    (entry code 6 Gb32
+    (entry code 7 Gb48
+    (entry code 8 Gb64
     (refused 3 3 code))))))))
 
 -- field 4, byte 4, bits 7-5: package and dies
 unfoldable pub packageOf : ℕ → Said Package
 packageOf code =
-    row code 0 (record { «package_type» = Monolithic; «die_count» = 1 })
-    (row code 1 (record { «package_type» = DualDie; «die_count» = 2 })
-    (row code 2 (record { «package_type» = ThreeDs; «die_count» = 2 })
-    (row code 3 (record { «package_type» = ThreeDs; «die_count» = 4 })
-    (row code 4 (record { «package_type» = ThreeDs; «die_count» = 8 })
-    (row code 5 (record { «package_type» = ThreeDs; «die_count» = 16 })
+    entry code 0 (record { «package_type» = Monolithic; «die_count» = 1 })
+    (entry code 1 (record { «package_type» = DualDie; «die_count» = 2 })
+    (entry code 2 (record { «package_type» = ThreeDs; «die_count» = 2 })
+    (entry code 3 (record { «package_type» = ThreeDs; «die_count» = 4 })
+    (entry code 4 (record { «package_type» = ThreeDs; «die_count» = 8 })
+    (entry code 5 (record { «package_type» = ThreeDs; «die_count» = 16 })
     (refused 3 4 code))))))
 
 -- field 5, byte 6, bits 7-5: I/O width
 unfoldable pub ioWidthOf : ℕ → Said IoWidth
 ioWidthOf code =
-    row code 0 X4
-    (row code 1 X8
-    (row code 2 X16
-    (row code 3 X32
+    entry code 0 X4
+    (entry code 1 X8
+    (entry code 2 X16
+    (entry code 3 X32
     (refused 3 5 code))))
 
 -- field 6, byte 7, bits 7-5: bank groups
 unfoldable pub bankGroupsOf : ℕ → Said BankGroups
 bankGroupsOf code =
-    row code 0 groups.One
-    (row code 1 groups.Two
-    (row code 2 groups.Four
-    (row code 3 groups.Eight
+    entry code 0 groups.One
+    (entry code 1 groups.Two
+    (entry code 2 groups.Four
+    (entry code 3 groups.Eight
     (refused 3 6 code))))
 
 -- field 7, byte 7, bits 2-0: banks per group
 unfoldable pub banksOf : ℕ → Said BanksPerBankGroup
 banksOf code =
-    row code 0 banks.One
-    (row code 1 banks.Two
-    (row code 2 banks.Four
+    entry code 0 banks.One
+    (entry code 1 banks.Two
+    (entry code 2 banks.Four
     (refused 3 7 code)))
 
 -- field 8, byte 235, bits 2-0: bus width
 unfoldable pub busWidthOf : ℕ → Said ℕ
 busWidthOf code =
-    row code 0 8
-    (row code 1 16
-    (row code 2 32
-    (row code 3 64
+    entry code 0 8
+    (entry code 1 16
+    (entry code 2 32
+    (entry code 3 64
     (refused 3 8 code))))
 
 -- field 9, byte 235, bits 7-5: channels
 unfoldable pub channelsOf : ℕ → Said ℕ
 channelsOf code =
-    row code 0 1
-    (row code 1 2
-    (row code 2 4
-    (row code 3 8
+    entry code 0 1
+    (entry code 1 2
+    (entry code 2 4
+    (entry code 3 8
     (refused 3 9 code))))
 
 -- The numbers that the cases stand for.

@@ -11,7 +11,7 @@ use lib.ListN.{length, take, drop, set, getD, replicate, length-append, length-d
 use lib.Seq.{length-take-le, drop-cons, take-suc, set-at, take-append-seam, take-length, drop-at}
 use Rattle.reading.proofs.Picked.{either, by-test}
 use Rattle.findings.specs.Hold.{blankFinding, blankItems, holding, toList, cat}
-use Rattle.findings.specs.Lent.{over, least, placesOf, keptOf, loadedOf, listed}
+use Rattle.findings.specs.Lent.{over, least, placesOf, loadCount, loadedOf, listed}
 use Rattle.findings.specs.declared.Finding.{Finding}
 use Rattle.findings.specs.declared.Found.{Found}
 use Rattle.findings.specs.declared.Found.the-variants.{Nothing, One}
@@ -34,16 +34,16 @@ places-le len need count =
     let k = least-le 15 len in
     either (λ n. (n ≤ 15) × (n ≤ len)) (ltb len need) (omega arith, omega arith) (omega arith, omega arith)
 
-pub kept-few : (len : ℕ) → len < 16 → keptOf len ≡ len
-unfolding keptOf
+pub kept-few : (len : ℕ) → len < 16 → loadCount len ≡ len
+unfolding loadCount
 kept-few len h = rw (lt-ltb len 16 h)
 
-pub kept-many : (len : ℕ) → 16 ≤ len → keptOf len ≡ 0
-unfolding keptOf
+pub kept-many : (len : ℕ) → 16 ≤ len → loadCount len ≡ 0
+unfolding loadCount
 kept-many len h = rw (le-ltb len 16 h)
 
-pub kept-le : (len : ℕ) → (keptOf len ≤ 15) × (keptOf len ≤ len)
-unfolding keptOf
+pub kept-le : (len : ℕ) → (loadCount len ≤ 15) × (loadCount len ≤ len)
+unfolding loadCount
 kept-le len = by-test (ltb len 16)
     (λ e. let h = ltb-true len 16 e in rw e (omega arith, omega arith))
     (λ e. rw e (omega arith, omega arith))

@@ -21,12 +21,12 @@ unfoldable pub placesOf : ℕ → ℕ → ℕ → ℕ
 placesOf len need count = pick (ltb len need) 0 (least count (least 15 len))
 
 -- how many of len findings are read: all of them, and none where they are more than 15
-unfoldable pub keptOf : ℕ → ℕ
-keptOf len = pick (ltb len 16) len 0
+unfoldable pub loadCount : ℕ → ℕ
+loadCount len = pick (ltb len 16) len 0
 
 -- a lent list by value: what is read of it over blank places, beside its length
 abbrev pub loadedOf : List Finding → Findings
-loadedOf ys = record { items = over (keptOf (length ys)) ys blankItems; count = length ys }
+loadedOf ys = record { items = over (loadCount (length ys)) ys blankItems; count = length ys }
 
 -- a lent list after a call that writes the findings l and asks for need places: as it was where it has fewer
 unfoldable pub listed : ℕ → List Finding → List Finding → List Finding

@@ -3,7 +3,7 @@
 ghost use mathlib.Core.Path.{_≡_};
 ghost use lib.ListN.{length};
 ghost use Rattle.findings.specs.Hold.{blankFinding, blankItems};
-ghost use Rattle.findings.specs.Lent.{over, placesOf, keptOf, loadedOf};
+ghost use Rattle.findings.specs.Lent.{over, placesOf, loadCount, loadedOf};
 
 pub enum Severity {
     // The image breaks a rule that it must keep.
@@ -88,7 +88,7 @@ pub fn fill(list: &mut [Finding], need: usize, found: Findings) -> usize
 
 // How many of a list of `len` findings are read: none where they are more than fifteen.
 pub fn kept(len: usize) -> usize
-    ensures { λ r. ⌜ r ≡ keptOf len ⌝ }
+    ensures { λ r. ⌜ r ≡ loadCount len ⌝ }
 {
     if len < 16 { len } else { 0 }
 }

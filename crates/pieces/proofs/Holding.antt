@@ -10,7 +10,7 @@ use lib.Dec.{eqb, leb}
 use borrow.Author.Tests.{eq-eqb, le-leb, leb-true}
 use Rattle.reading.specs.Pick.{pick, and}
 use Rattle.reading.specs.Said.{gives}
-use Rattle.pieces.specs.Fed.{over, Feeding, fedBy, freshPieces, keptBytes, longest, padded, Holds}
+use Rattle.pieces.specs.Fed.{overlaid, Feeding, fedBy, freshPieces, keptBytes, longest, padded, Holds}
 use Rattle.pieces.specs.Run.{Call, takes, answerAt}
 use Rattle.pieces.specs.declared.Pieces.{Pieces}
 use Rattle.pieces.proofs.Laws.{over-none}
@@ -21,8 +21,8 @@ padded-none zero = refl
 padded-none (suc n) = ap (λ (l : List ℕ). 0 ∷ l) (padded-none n)
 
 -- a piece laid over what is kept, past the bytes that are held
-over-padded : (n : ℕ) (b p : List ℕ) → over (padded n b) (length b) p ≡ padded n (b ++ p)
-unfolding over padded
+over-padded : (n : ℕ) (b p : List ℕ) → overlaid (padded n b) (length b) p ≡ padded n (b ++ p)
+unfolding overlaid padded
 over-padded zero b p = refl
 over-padded (suc n) [] [] = refl
 over-padded (suc n) [] (y ∷ p) = ap (λ (l : List ℕ). y ∷ l) (over-padded n [] p)

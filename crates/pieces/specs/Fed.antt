@@ -22,11 +22,11 @@ abbrev pub freshPieces : Pieces
 freshPieces = record { kept = replicate keptBytes 0; taken = 0 }
 
 -- the bytes k with the bytes p laid over them from place `at` on; what would stand past k's end is dropped
-unfoldable pub over : List ℕ → ℕ → List ℕ → List ℕ
-over [] at p = []
-over (k ∷ ks) (suc at) p = k ∷ over ks at p
-over (k ∷ ks) zero [] = k ∷ ks
-over (k ∷ ks) zero (x ∷ p) = x ∷ over ks zero p
+unfoldable pub overlaid : List ℕ → ℕ → List ℕ → List ℕ
+overlaid [] at p = []
+overlaid (k ∷ ks) (suc at) p = k ∷ overlaid ks at p
+overlaid (k ∷ ks) zero [] = k ∷ ks
+overlaid (k ∷ ks) zero (x ∷ p) = x ∷ overlaid ks zero p
 
 -- eight bytes of p from place i on, stored in k from place `at` on; a private function promises it
 abbrev pub withEight : List ℕ → ℕ → List ℕ → ℕ → List ℕ
@@ -52,7 +52,7 @@ fedBy s offset piece =
     pick (eqb offset (s .taken))
     (pick (leb (s .taken + length piece) longest)
     (record {
-      state = record { kept = over (s .kept) (s .taken) piece; taken = s .taken + length piece };
+      state = record { kept = overlaid (s .kept) (s .taken) piece; taken = s .taken + length piece };
       answer = gives (s .taken + length piece);
     })
     (record { state = s; answer = refused 6 0 0 }))

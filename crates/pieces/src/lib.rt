@@ -8,7 +8,7 @@ ghost use Rattle.decoders.specs.Identity.{identityOf};
 ghost use Rattle.decoders.specs.Timing.{timingsOf};
 ghost use Rattle.findings.specs.Lent.{listed};
 ghost use Rattle.rules.specs.Lint.{lintSaid, lintOf, lintAnswerSaid, lintAnswerOf, findingsOf};
-ghost use Rattle.pieces.specs.Fed.{freshPieces, over, withEight, fedSaid, fedBy, keptOf};
+ghost use Rattle.pieces.specs.Fed.{freshPieces, overlaid, withEight, fedSaid, fedBy, keptOf};
 use decoders::identity::IdentityAnswer;
 use decoders::timing::TimingsAnswer;
 use findings::Finding;
@@ -136,7 +136,7 @@ fn room(at: usize, len: usize, most: usize) -> usize
 
 // Lays `piece` over `kept` from `at` on; what would stand past its end is dropped. A burst of sixteen bytes goes in eight by eight.
 pub fn lay(kept: &mut [u8], at: usize, piece: &[u8])
-    ensures { λ _. ⌜ now (kept .exit) ≡ over (now (kept .entry)) at (now (piece .entry)) ⌝ }
+    ensures { λ _. ⌜ now (kept .exit) ≡ overlaid (now (kept .entry)) at (now (piece .entry)) ⌝ }
 {
     if piece.len() != 16 {
         return lay_bytes(kept, at, piece);
@@ -153,7 +153,7 @@ pub fn lay(kept: &mut [u8], at: usize, piece: &[u8])
 
 // Byte by byte, as many as there is room for.
 fn lay_bytes(kept: &mut [u8], at: usize, piece: &[u8])
-    ensures { λ _. ⌜ now (kept .exit) ≡ over (now (kept .entry)) at (now (piece .entry)) ⌝ }
+    ensures { λ _. ⌜ now (kept .exit) ≡ overlaid (now (kept .entry)) at (now (piece .entry)) ⌝ }
 {
     let n = room(at, piece.len(), kept.len());
     let mut i = 0;
@@ -188,7 +188,7 @@ fn lay_eight(kept: &mut [u8], k: usize, piece: &[u8], i: usize)
 
 // The same for the array of a state.
 fn lay_kept(kept: &mut [u8; KEPT], at: usize, piece: &[u8])
-    ensures { λ _. ⌜ now (kept .exit) ≡ over (now (kept .entry)) at (now (piece .entry)) ⌝ }
+    ensures { λ _. ⌜ now (kept .exit) ≡ overlaid (now (kept .entry)) at (now (piece .entry)) ⌝ }
 {
     lay(kept, at, piece);
 }

@@ -100,10 +100,10 @@ module _ (flags n : ℕ) (xs : List Finding) (h : n ≤ length xs) where
 
 -- ---- put_numbers: the same, where the findings stand as numbers
 module _ (flags n : ℕ) (hs ns : List ℕ) where
-  pub next-numbers : (d : List ℕ) (i : ℕ) {b o out : List ℕ} → b ≡ findingBytes (rules.findingIn hs ns i) → o ≡ laid (headOf flags n ++ bodyOf (firstFindings hs ns i)) d
+  pub next-numbers : (d : List ℕ) (i : ℕ) {b o out : List ℕ} → b ≡ findingBytes (rules.findingAt hs ns i) → o ≡ laid (headOf flags n ++ bodyOf (firstFindings hs ns i)) d
       → out ≡ take (5 + 14 * i) o ++ b ++ drop (5 + 14 * i + length b) o → out ≡ laid (headOf flags n ++ bodyOf (firstFindings hs ns (i + 1))) d
   next-numbers d i p q r =
-      next-row flags n (firstFindings hs ns i) (rules.findingIn hs ns i) d (5 + 14 * i) (omega (arith, length-body (firstFindings hs ns i), length-first hs ns i)) p q r
+      next-row flags n (firstFindings hs ns i) (rules.findingAt hs ns i) d (5 + 14 * i) (omega (arith, length-body (firstFindings hs ns i), length-first hs ns i)) p q r
       ∙ ap (λ (k : ℕ). laid (headOf flags n ++ bodyOf (firstFindings hs ns k)) d) (sym (add-one i))
 
   pub all-numbers : (d : List ℕ) (i : ℕ) → i ≡ n → {o out : List ℕ} → o ≡ laid (headOf flags n) d → out ≡ laid (headOf flags n ++ bodyOf (firstFindings hs ns i)) o → out ≡ laid (reportOf flags (firstFindings hs ns n)) d

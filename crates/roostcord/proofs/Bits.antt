@@ -11,7 +11,7 @@ use Rattle.reading.specs.Said.{Said, gives, refuses, onward, told}
 use Rattle.reading.specs.View.{View, view}
 use Rattle.reading.specs.declared.Refusal.{Refusal}
 use Rattle.reading.proofs.Picked.{either}
-use Rattle.decoders.specs.Codes.{row, sizeOf, deviceOf, moduleOf, densityOf, packageOf, ioWidthOf, bankGroupsOf, banksOf, busWidthOf, channelsOf}
+use Rattle.decoders.specs.Codes.{entry, sizeOf, deviceOf, moduleOf, densityOf, packageOf, ioWidthOf, bankGroupsOf, banksOf, busWidthOf, channelsOf}
 use Rattle.decoders.specs.Identity.{identityAt, identityOf}
 use Rattle.decoders.specs.Timing.{timingsAt, timingsOf}
 use Rattle.decoders.specs.Clocks.{clockTableOf}
@@ -32,7 +32,7 @@ abbrev pub Fits : {A : Type 0} → Said A → Type 0
 Fits (gives a) = Unit {0}
 Fits (refuses t) = (t .first < 4096) × (t .second < 1024)
 
-row-fits : {A : Type 0} (code k : ℕ) (x : A) (below : Said A) → Fits below → Fits (row code k x below)
+row-fits : {A : Type 0} (code k : ℕ) (x : A) (below : Said A) → Fits below → Fits (entry code k x below)
 row-fits code k x below = either Fits (eqb code k) tt
 
 -- the tables: a code that no row has is carried with the field's number

@@ -6,9 +6,9 @@ use lib.IntN.{ℤ, pos}
 use lib.ListN.{length, take, drop}
 use borrow.Author.Tests.{eq-eqb, ne-eqb, lt-ltb, le-ltb, le-leb, lt-leb}
 use Rattle.reading.specs.Said.{refused}
-use Rattle.pieces.specs.Fed.{over, longest}
+use Rattle.pieces.specs.Fed.{overlaid, longest}
 use Rattle.roostcord.specs.Word.{wordOf}
-use Rattle.roostcord.specs.State.{countIn, bytesOf, feedIn, feedAfter}
+use Rattle.roostcord.specs.State.{countIn, stateBytes, feedIn, feedAfter}
 
 module _ (s : List ℕ) (offset : ℕ) (piece : List ℕ) where
   abbrev Fed : ℤ → List ℕ → Type 0
@@ -28,7 +28,7 @@ module _ (s : List ℕ) (offset : ℕ) (piece : List ℕ) where
     too-long n l e = rw (le-ltb (length s) 512 h, eq-eqb offset (countIn s) n, lt-leb (countIn s + length piece) longest l) (e, refl)
 
     pub taken : offset ≡ countIn s → countIn s + length piece ≤ longest → {z : ℤ} {later : List ℕ} → z ≡ pos (countIn s + length piece)
-        → later ≡ bytesOf (record { kept = over (take 510 (drop 2 s)) (countIn s) piece; taken = countIn s + length piece }) ++ drop 512 s
+        → later ≡ stateBytes (record { kept = overlaid (take 510 (drop 2 s)) (countIn s) piece; taken = countIn s + length piece }) ++ drop 512 s
         → Fed z later
     unfolding feedIn feedAfter
     taken n l e f = rw (le-ltb (length s) 512 h, eq-eqb offset (countIn s) n, le-leb (countIn s + length piece) longest l) (e, f)

@@ -11,16 +11,16 @@ use borrow.Author.Tests.{le-ltb, leb-true, ltb-false}
 use Rattle.reading.specs.Said.{Told, gives, refuses}
 use Rattle.reading.proofs.Picked.{by-test}
 use Rattle.pieces.specs.declared.Pieces.{Pieces}
-use Rattle.pieces.specs.Fed.{over, Feeding, fedBy, freshPieces, longest, keptOf, Holds}
+use Rattle.pieces.specs.Fed.{overlaid, Feeding, fedBy, freshPieces, longest, keptOf, Holds}
 use Rattle.pieces.specs.Run.{Call, runFrom, run, image}
 use Rattle.pieces.proofs.Running.{run-holds}
 use Rattle.pieces.proofs.Asking.{run-identity, run-timings, run-findings}
 use Rattle.report.specs.Write.{lintReportOf, lintReportAfter}
 use Rattle.roostcord.specs.Numbers.{identityList, timingsList, casNumbers, clocksList}
-use Rattle.roostcord.specs.State.{short, countIn, stateIn, bytesOf, arrivedIn, freshAfter, feedIn, feedAfter, fedBytes}
+use Rattle.roostcord.specs.State.{short, countIn, stateIn, stateBytes, arrivedIn, freshAfter, feedIn, feedAfter, fedBytes}
 
-length-over : (k : List ℕ) (at : ℕ) (p : List ℕ) → length (over k at p) ≡ length k
-unfolding over
+length-over : (k : List ℕ) (at : ℕ) (p : List ℕ) → length (overlaid k at p) ≡ length k
+unfolding overlaid
 length-over [] at p = refl
 length-over (x ∷ k) (suc at) p = ap suc (length-over k at p)
 length-over (x ∷ k) zero [] = refl
@@ -28,15 +28,15 @@ length-over (x ∷ k) zero (y ∷ p) = ap suc (length-over k zero p)
 
 -- the bytes of a state whose count has twelve bits, with anything behind them: they are that state, and the rest stays
 module _ (p : Pieces) (rest : List ℕ) (k : length (p .kept) ≡ 510) where
-  back : p .taken < 4096 → stateIn (bytesOf p ++ rest) ≡ p
+  back : p .taken < 4096 → stateIn (stateBytes p ++ rest) ≡ p
   back h =
       let n : p .taken % 256 + 256 * (p .taken / 256 % 16) ≡ p .taken = omega arith in
       λ i. record { kept = take-at (p .kept) rest 510 k i; taken = n i }
 
-  behind : drop 512 (bytesOf p ++ rest) ≡ rest
+  behind : drop 512 (stateBytes p ++ rest) ≡ rest
   behind = drop-at (p .kept) rest 510 k
 
-  long : 512 ≤ length (bytesOf p ++ rest)
+  long : 512 ≤ length (stateBytes p ++ rest)
   long = omega (arith, length-append (p .kept) rest)
 
 module _ (s : List ℕ) (h : 512 ≤ length s) where
@@ -54,14 +54,14 @@ module _ (s : List ℕ) (h : 512 ≤ length s) where
 
   module _ (offset : ℕ) (piece : List ℕ) where
     abbrev later : Pieces
-    later = record { kept = over (take 510 (drop 2 s)) (countIn s) piece; taken = countIn s + length piece }
+    later = record { kept = overlaid (take 510 (drop 2 s)) (countIn s) piece; taken = countIn s + length piece }
 
     kept-all : length (later .kept) ≡ 510
     kept-all = length-over (take 510 (drop 2 s)) (countIn s) piece ∙ simp (length-take, length-drop) (omega arith)
 
     -- what holds where a piece is taken, and where it is refused, holds of feeding
     by-feeding : (P : List ℕ → Feeding → Type 0)
-        → (later .taken ≤ longest → P (bytesOf later ++ drop 512 s) (record { state = later; answer = gives (later .taken) }))
+        → (later .taken ≤ longest → P (stateBytes later ++ drop 512 s) (record { state = later; answer = gives (later .taken) }))
         → ((t : Told) → P s (record { state = stateIn s; answer = refuses t }))
         → P (feedAfter s offset piece) (fedBy (stateIn s) offset piece)
     unfolding feedAfter

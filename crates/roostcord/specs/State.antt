@@ -22,8 +22,8 @@ countIn s = getD s 0 0 + 256 * (getD s 1 0 % 16)
 abbrev pub stateIn : List ℕ → Pieces
 stateIn s = record { kept = take 510 (drop 2 s); taken = countIn s }
 
-abbrev pub bytesOf : Pieces → List ℕ
-bytesOf p = p .taken % 256 ∷ p .taken / 256 ∷ p .kept
+abbrev pub stateBytes : Pieces → List ℕ
+stateBytes p = p .taken % 256 ∷ p .taken / 256 ∷ p .kept
 
 -- what has arrived, as far as it is kept
 abbrev pub arrivedIn : List ℕ → List ℕ
@@ -37,7 +37,7 @@ unfoldable pub freshIn : List ℕ → Said ℕ
 freshIn s = asked s (gives 0)
 
 unfoldable pub freshAfter : List ℕ → List ℕ
-freshAfter s = pick (short s) s (bytesOf freshPieces ++ drop 512 s)
+freshAfter s = pick (short s) s (stateBytes freshPieces ++ drop 512 s)
 
 unfoldable pub feedIn : List ℕ → (offset : ℕ) → List ℕ → Said ℕ
 feedIn s offset piece = asked s (fedBy (stateIn s) offset piece .answer)
@@ -46,7 +46,7 @@ feedIn s offset piece = asked s (fedBy (stateIn s) offset piece .answer)
 unfoldable pub feedAfter : List ℕ → (offset : ℕ) → List ℕ → List ℕ
 feedAfter s offset piece =
     pick (short s) s
-    (onward (λ t. s) (fedBy (stateIn s) offset piece .answer) (λ n. bytesOf (fedBy (stateIn s) offset piece .state) ++ drop 512 s))
+    (onward (λ t. s) (fedBy (stateIn s) offset piece .answer) (λ n. stateBytes (fedBy (stateIn s) offset piece .state) ++ drop 512 s))
 
 unfoldable pub takenIn : List ℕ → Said ℕ
 takenIn s = asked s (gives (countIn s))

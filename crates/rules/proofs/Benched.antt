@@ -6,7 +6,7 @@ use Rattle.decoders.specs.Codes.{sizeOf, deviceOf, moduleOf, densityOf, package
 use Rattle.decoders.specs.Timing.{le16At, casAt}
 use Rattle.rules.specs.Rules.{onLadder}
 use Rattle.rules.specs.Lint.{lintAt}
-use Rattle.rules.specs.Bench.{holds, All, Holds, bench}
+use Rattle.rules.specs.Bench.{holds, All, AllHold, bench}
 
 next : {A B : Type 0} → A → B → A × B
 next a b = (a, b)
@@ -24,5 +24,5 @@ computed =
     (next refl (next refl
     (next refl (next refl (next refl tt)))))))))))))))))))))))
 
-pub bench-holds : Holds bench
+pub bench-holds : AllHold bench
 bench-holds = subst⁻¹ (λ see. All (holds see) bench) (fun-ext view-made) computed

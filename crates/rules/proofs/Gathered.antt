@@ -19,7 +19,7 @@ use Rattle.findings.specs.declared.Found.{Found}
 use Rattle.findings.specs.declared.Found.the-variants.{Nothing, One}
 use Rattle.findings.specs.Hold.{blankFinding, holding, toList, cat}
 use Rattle.findings.proofs.Laws.{kept-few}
-use Rattle.rules.specs.Lanes.{Lanes, lanes, severityNumber, severityOf, Three, headOf, numbersOf, joined, stored, threeAt, noted, noteAll, findingIn, firstFindings, recordsOf, flat, lanesHolding}
+use Rattle.rules.specs.Lanes.{Lanes, lanes, severityNumber, severityOf, Three, smallOf, numbersOf, joined, stored, threeAt, noted, noteAll, findingAt, firstFindings, recordsOf, flat, lanesHolding}
 
 -- ---- three numbers in a row of a flat list
 set-past : (p q : List ℕ) (k v : ℕ) → set (p ++ q) (length p + k) v ≡ p ++ set q k v
@@ -75,7 +75,7 @@ module _ (h n : List ℕ) (wide : Room h) (deep : Room n) where
   note-held l (One f) few =
       let m : length (l ++ (f ∷ [])) ≡ length l + 1 = length-append l (f ∷ []) in
       let k : length l < 15 = omega arith in
-      rw (lt-ltb (length l) 15 k) (λ i. lanes (lane-on headOf h l f wide k i) (lane-on numbersOf n l f deep k i) (sym m i))
+      rw (lt-ltb (length l) 15 k) (λ i. lanes (lane-on smallOf h l f wide k i) (lane-on numbersOf n l f deep k i) (sym m i))
 
   -- a row of answers, noted one after the other
   noteAll-held : (xs : List Found) (l : List Finding) → length (l ++ cat xs) ≤ 15 → noteAll (lanesHolding h n l) xs ≡ lanesHolding h n (l ++ cat xs)
@@ -130,16 +130,16 @@ severity-back Warning = refl
 severity-back Info = refl
 
 module _ (h n : List ℕ) (l : List Finding) where
-  pub place-held : (k : ℕ) → k < length l → findingIn (laid (flat headOf l) h) (laid (flat numbersOf l) n) k ≡ getD l k blankFinding
+  pub place-held : (k : ℕ) → k < length l → findingAt (laid (flat smallOf l) h) (laid (flat numbersOf l) n) k ≡ getD l k blankFinding
   place-held k lt =
-      (λ i. joined (lane-at headOf l (drop (length (flat headOf l)) h) k lt i) (lane-at numbersOf l (drop (length (flat numbersOf l)) n) k lt i))
+      (λ i. joined (lane-at smallOf l (drop (length (flat smallOf l)) h) k lt i) (lane-at numbersOf l (drop (length (flat numbersOf l)) n) k lt i))
       ∙ rw severity-back
 
-  first-held : (k : ℕ) → k ≤ length l → firstFindings (laid (flat headOf l) h) (laid (flat numbersOf l) n) k ≡ take k l
+  first-held : (k : ℕ) → k ≤ length l → firstFindings (laid (flat smallOf l) h) (laid (flat numbersOf l) n) k ≡ take k l
   first-held zero lt = refl
   first-held (suc k) lt = rw (take-suc l k blankFinding lt, first-held k (omega arith), place-held k lt)
 
-  pub all-first : firstFindings (laid (flat headOf l) h) (laid (flat numbersOf l) n) (length l) ≡ l
+  pub all-first : firstFindings (laid (flat smallOf l) h) (laid (flat numbersOf l) n) (length l) ≡ l
   all-first = rw (first-held (length l) (le-refl (length l)), take-length)
 
   pub records-held : length l ≤ 15 → recordsOf (lanesHolding h n l) ≡ holding l
@@ -153,11 +153,11 @@ whole xs e few = rw (all-held (replicate 45 0) (replicate 45 0) (le-refl 45) (le
 -- one record more, in the first blank place
 pub length-first : (h n : List ℕ) (k : ℕ) → length (firstFindings h n k) ≡ k
 length-first h n zero = refl
-length-first h n (suc k) = omega (arith, length-first h n k, length-append (firstFindings h n k) (findingIn h n k ∷ []))
+length-first h n (suc k) = omega (arith, length-first h n k, length-append (firstFindings h n k) (findingAt h n k ∷ []))
 
 pub record-on : (h n : List ℕ) (k : ℕ) → k < 15
-    → set (firstFindings h n k ++ replicate (15 - k) blankFinding) k (findingIn h n k) ≡ firstFindings h n (k + 1) ++ replicate (15 - (k + 1)) blankFinding
+    → set (firstFindings h n k ++ replicate (15 - k) blankFinding) k (findingAt h n k) ≡ firstFindings h n (k + 1) ++ replicate (15 - (k + 1)) blankFinding
 record-on h n k lt =
     let e : 15 - k ≡ suc (15 - (k + 1)) = omega arith in
     let m : k + 1 ≡ suc k = add-one k in
-    rw (e, m, append-assoc, set-at (firstFindings h n k) blankFinding (replicate (15 - suc k) blankFinding) (findingIn h n k) k (length-first h n k))
+    rw (e, m, append-assoc, set-at (firstFindings h n k) blankFinding (replicate (15 - suc k) blankFinding) (findingAt h n k) k (length-first h n k))

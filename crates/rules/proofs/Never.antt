@@ -13,7 +13,7 @@ use Rattle.findings.specs.declared.Found.{Found}
 use Rattle.findings.specs.declared.Found.the-variants.{Nothing}
 use Rattle.findings.specs.Hold.{cat}
 use Rattle.findings.proofs.Laws.{length-cat, cat-append}
-use Rattle.decoders.specs.Codes.{row, sizeOf, deviceOf, moduleOf, densityOf, packageOf, ioWidthOf, bankGroupsOf, banksOf, busWidthOf, channelsOf}
+use Rattle.decoders.specs.Codes.{entry, sizeOf, deviceOf, moduleOf, densityOf, packageOf, ioWidthOf, bankGroupsOf, banksOf, busWidthOf, channelsOf}
 use Rattle.decoders.specs.Identity.{identityAt}
 use Rattle.decoders.specs.declared.identity.IdentityAndBase.{IdentityAndBase}
 use Rattle.decoders.specs.declared.identity.PackageType.{PackageType}
@@ -38,7 +38,7 @@ abbrev Coherent : PackageType → ℕ → Type 0
 Coherent kind dies = coherence kind dies ≡ Nothing
 
 -- one row of a table, and the rows below it
-row-of : {A : Type 0} (P : A → Type 0) (code k : ℕ) (x : A) (below : Said A) → P x → OfGiven below P → OfGiven (row code k x below) P
+row-of : {A : Type 0} (P : A → Type 0) (code k : ℕ) (x : A) (below : Said A) → P x → OfGiven below P → OfGiven (entry code k x below) P
 row-of P code k x below = either (λ s. OfGiven s P) (eqb code k)
 
 packages : (code : ℕ) → OfGiven (packageOf code) (λ p. Coherent (p .«package_type») (p .«die_count»))

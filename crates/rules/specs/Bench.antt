@@ -48,8 +48,8 @@ All P [] = Unit {0}
 All P (line ∷ lines) = P line × All P lines
 
 -- every line holds of the images' lists of bytes
-abbrev pub Holds : List Line → Type 0
-Holds = All (holds (λ image. view (bytesOf image)))
+abbrev pub AllHold : List Line → Type 0
+AllHold = All (holds (λ image. view (bytesOf image)))
 
 -- a UDIMM whose identity decodes, with one byte set
 abbrev pub with : (offset byte : ℕ) → Image

@@ -13,7 +13,7 @@ use Rattle.findings.specs.declared.Findings.{Findings}
 use Rattle.findings.specs.declared.Found.{Found}
 use Rattle.findings.specs.declared.Found.the-variants.{Nothing, One}
 use Rattle.findings.specs.Hold.{blankFinding}
-use Rattle.findings.specs.Lent.{keptOf}
+use Rattle.findings.specs.Lent.{loadCount}
 use Rattle.rules.specs.Table.{finding}
 use Rattle.rules.specs.Lint.{Listing, listingOf, findingsOf}
 
@@ -39,8 +39,8 @@ pub record Three : Type 0 where
   pub b : ℕ
   pub c : ℕ
 
-abbrev pub headOf : Finding → Three
-headOf f = record { a = f .code; b = severityNumber (f .severity); c = f .sub }
+abbrev pub smallOf : Finding → Three
+smallOf f = record { a = f .code; b = severityNumber (f .severity); c = f .sub }
 
 abbrev pub numbersOf : Finding → Three
 numbersOf f = record { a = f .first; b = f .second; c = f .third }
@@ -59,7 +59,7 @@ lintNumbersOf s h n = roomy h n (refused 4 0 0) (gives (listingOf s))
 
 -- the lists afterwards: the findings' numbers at the front, the other places as they were
 unfoldable pub headsAfter : List ℕ → (h n : List ℕ) → List ℕ
-headsAfter s h n = roomy h n h (laid (flat headOf (findingsOf s)) h)
+headsAfter s h n = roomy h n h (laid (flat smallOf (findingsOf s)) h)
 
 unfoldable pub numbersAfter : List ℕ → (h n : List ℕ) → List ℕ
 numbersAfter s h n = roomy h n n (laid (flat numbersOf (findingsOf s)) n)
@@ -80,7 +80,7 @@ abbrev pub noted : Lanes → Found → Lanes
 noted l Nothing = l
 noted l (One f) =
     pick (ltb (l .count) 15)
-    (lanes (stored (l .heads) (l .count) (headOf f)) (stored (l .numbers) (l .count) (numbersOf f)) (l .count + 1))
+    (lanes (stored (l .heads) (l .count) (smallOf f)) (stored (l .numbers) (l .count) (numbersOf f)) (l .count + 1))
     l
 
 unfoldable pub noteAll : Lanes → List Found → Lanes
@@ -88,22 +88,22 @@ noteAll l [] = l
 noteAll l (x ∷ xs) = noteAll (noted l x) xs
 
 -- the finding in a place
-abbrev pub findingIn : List ℕ → List ℕ → ℕ → Finding
-findingIn h n i = joined (threeAt h i) (threeAt n i)
+abbrev pub findingAt : List ℕ → List ℕ → ℕ → Finding
+findingAt h n i = joined (threeAt h i) (threeAt n i)
 
 -- the findings in the first k places
 abbrev pub firstFindings : List ℕ → List ℕ → ℕ → List Finding
 firstFindings h n zero = []
-firstFindings h n (suc k) = firstFindings h n k ++ (findingIn h n k ∷ [])
+firstFindings h n (suc k) = firstFindings h n k ++ (findingAt h n k ∷ [])
 
 -- as records: the places in use, none where they are more than fifteen, and then blanks
 abbrev pub recordsOf : Lanes → Findings
 recordsOf l =
     record {
-      items = firstFindings (l .heads) (l .numbers) (keptOf (l .count)) ++ replicate (15 - keptOf (l .count)) blankFinding;
-      count = keptOf (l .count);
+      items = firstFindings (l .heads) (l .numbers) (loadCount (l .count)) ++ replicate (15 - loadCount (l .count)) blankFinding;
+      count = loadCount (l .count);
     }
 
 -- the arrays and the count that hold a list of findings, where the arrays were h and n
 unfoldable pub lanesHolding : (h n : List ℕ) → List Finding → Lanes
-lanesHolding h n l = lanes (laid (flat headOf l) h) (laid (flat numbersOf l) n) (length l)
+lanesHolding h n l = lanes (laid (flat smallOf l) h) (laid (flat numbersOf l) n) (length l)

@@ -11,7 +11,7 @@ ghost use Rattle.rules.specs.Table.{orderSub, clockSub, nonIntegerDevice
 ghost use Rattle.rules.specs.Regions.{offsets, lengths, firstFrom, regionAt, regionRules};
 ghost use Rattle.rules.specs.Rules.{deviceCount, capacity, coherence, trcIdentity, ordering, supportedIn, casLatency, clockMultiple, onLadder, standardRate, timingRules, each};
 ghost use Rattle.rules.specs.Lint.{lintSaid, lintOf, replied, listingSaid, listingOf, lintAnswerSaid, lintAnswerOf, findingsOf, ratedFindings, ratedSaid, ratedReplied, ratedOf};
-ghost use Rattle.rules.specs.Lanes.{lanes, severityNumber, severityOf, headOf, numbersOf, flat, lintNumbersOf, headsAfter, numbersAfter, noted, noteAll, findingIn, recordsOf};
+ghost use Rattle.rules.specs.Lanes.{lanes, severityNumber, severityOf, smallOf, numbersOf, flat, lintNumbersOf, headsAfter, numbersAfter, noted, noteAll, findingAt, recordsOf};
 ghost use Rattle.rules.specs.Word.{sum64, le64};
 use decoders::identity::IdentityAndBase;
 use decoders::identity::IdentityAnswer;
@@ -257,7 +257,7 @@ pub fn lint_numbers(image: &[u8], heads: &mut [u8], numbers: &mut [u32]) -> Lint
 // Every rule, in document 01's order. A rule on a record is silent where its decoder refused.
 fn run_rules(image: &[u8], heads: &mut [u8], numbers: &mut [u32]) -> LintRecords
     requires { ⌜ (45 ≤ length (now heads)) × (45 ≤ length (now numbers)) ⌝ }
-    ensures { λ r. ⌜ (listingSaid r ≡ listingOf (now (image .entry))) × (now (heads .exit) ≡ laid (flat headOf (findingsOf (now (image .entry)))) (now (heads .entry))) × (now (numbers .exit) ≡ laid (flat numbersOf (findingsOf (now (image .entry)))) (now (numbers .entry))) ⌝ }
+    ensures { λ r. ⌜ (listingSaid r ≡ listingOf (now (image .entry))) × (now (heads .exit) ≡ laid (flat smallOf (findingsOf (now (image .entry)))) (now (heads .entry))) × (now (numbers .exit) ≡ laid (flat numbersOf (findingsOf (now (image .entry)))) (now (numbers .entry))) ⌝ }
 {
     let mut n = check_reserved_regions(image, heads, numbers);
     let identity = decoders::identity::decode_identity_and_base(image);
@@ -724,7 +724,7 @@ fn records(heads: &[u8], numbers: &[u32], n: usize) -> Findings
 
 fn record_at(heads: &[u8], numbers: &[u32], i: usize) -> Finding
     requires { ⌜ (i < 15) × (45 ≤ length (now heads)) × (45 ≤ length (now numbers)) ⌝ }
-    ensures { λ r. ⌜ r ≡ findingIn (now (heads .entry)) (now (numbers .entry)) i ⌝ }
+    ensures { λ r. ⌜ r ≡ findingAt (now (heads .entry)) (now (numbers .entry)) i ⌝ }
 {
     Finding {
         code: heads[3 * i],

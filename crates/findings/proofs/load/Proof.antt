@@ -14,7 +14,7 @@ use Rattle.findings.proofs.Walk.{URA, fullShare, Ty, named, imm, w64, t
 use denote.Struct.Laws as LL
 use Rattle.reading.proofs.Picked.{by-test}
 use Rattle.findings.specs.Hold.{blankFinding, blankItems}
-use Rattle.findings.specs.Lent.{over, keptOf, loadedOf}
+use Rattle.findings.specs.Lent.{over, loadCount, loadedOf}
 use Rattle.findings.proofs.Laws.{kept-le, over-length, over-step}
 use Rattle.findings.specs.declared.Finding.{Finding}
 use Rattle.findings.specs.declared.Findings.{Findings}
@@ -57,7 +57,7 @@ module _ {M : Type 1} (𝓤 : URA M) (H : Heap 𝓤) (A : Atoms 𝓤) (mem : Mem
 
 module _ {M : Type 1} (𝓤 : URA M) (H : Heap 𝓤) (A : Atoms 𝓤) (W : Given 𝓤 H A) (mem : Memory → SProp 𝓤) (run : Routine → Fun 𝓤) (κ : Lft) (q : Share) (b o : ℕ) (γ : GName) (ys : List Finding) (space : Room R (length ys)) where
   abbrev n : ℕ
-  n = keptOf (length ys)
+  n = loadCount (length ys)
 
   abbrev x : RefT (List Finding)
   x = record { ptr = (b, o); name = γ; now = ys }

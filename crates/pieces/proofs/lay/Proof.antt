@@ -5,7 +5,7 @@ use native.Mathlib.Omega.{arith}
 use lib.ListN.{length}
 use lib.Seq.{take-all}
 use borrow.Author.Needs.{needs}
-use Rattle.pieces.specs.Fed.{over}
+use Rattle.pieces.specs.Fed.{overlaid}
 use Rattle.pieces.proofs.Laws.{over-none, over-eight}
 use Rattle.pieces.proofs.lay.Statement.{statement}
 use Rattle.pieces.proofs.lay.Tie as tie
@@ -16,7 +16,7 @@ returns-4 c =
     let k = a .kept .now in
     let p = a .piece .now in
     let first = c .before .before .before .before .before .before .lay-eight .ensures ∙ over-eight k (a .at) p 0 (sym (over-none k (a .at))) (omega arith) (omega arith) in
-    c .before .before .lay-eight2 .ensures ∙ over-eight k (a .at) p 8 first (omega arith) (omega arith) ∙ ap (over k (a .at)) (take-all 16 p (omega arith))
+    c .before .before .lay-eight2 .ensures ∙ over-eight k (a .at) p 8 first (omega arith) (omega arith) ∙ ap (overlaid k (a .at)) (take-all 16 p (omega arith))
 
 pub lay-spec : {M : Type 1} → statement M
 lay-spec =

@@ -6,13 +6,13 @@ use native.Mathlib.Omega.{arith}
 use native.Mathlib.Numerals.{add-one}
 use lib.ListN.{length, take}
 use borrow.Author.Needs.{needs}
-use Rattle.pieces.specs.Fed.{over}
+use Rattle.pieces.specs.Fed.{overlaid}
 use Rattle.pieces.proofs.Laws.{over-none, over-more, over-end}
 use Rattle.pieces.proofs.lay_bytes.Statement.{statement}
 use Rattle.pieces.proofs.lay_bytes.Tie as tie
 
 abbrev Inv-loop : tie.InvT-loop
-Inv-loop kept₀ at piece n i₀ kept i = (i ≤ n) × (length kept ≡ length kept₀) × (kept ≡ over kept₀ at (take i piece))
+Inv-loop kept₀ at piece n i₀ kept i = (i ≤ n) × (length kept ≡ length kept₀) × (kept ≡ overlaid kept₀ at (take i piece))
 
 abbrev μ-loop : tie.MeasureT-loop
 μ-loop kept₀ at piece n i₀ kept i = n - i

@@ -18,7 +18,7 @@ use Rattle.decoders.specs.Timing.{timingsOf}
 use Rattle.rules.specs.Regions.{regionRules}
 use Rattle.rules.specs.Rules.{identityRules, timingRules, each}
 use Rattle.rules.specs.Lint.{onGiven, lintRules, lintAt, findingsOf, Listing, listingOf}
-use Rattle.rules.specs.Lanes.{Lanes, lanes, headOf, numbersOf, flat, noteAll, lanesHolding}
+use Rattle.rules.specs.Lanes.{Lanes, lanes, smallOf, numbersOf, flat, noteAll, lanesHolding}
 use Rattle.rules.proofs.Gathered.{note-on, row-on, noteAll-lengths, still, all-held}
 use Rattle.rules.proofs.Never.{fits}
 use Rattle.rules.proofs.run_rules.Statement.{statement}
@@ -61,7 +61,7 @@ module _ (m : tie.At-match-came) {h n : List ℕ} {k : ℕ} {u : Said Timings} (
 
   answered : (45 ≤ length (lent m .heads)) × (45 ≤ length (lent m .numbers))
       → _≡_ {A = Listing} (record { identity = identitySaid (m .match .identity); timings = u; count = k }) (listingOf (image m))
-      × (h ≡ laid (flat headOf (findingsOf (image m))) (lent m .heads))
+      × (h ≡ laid (flat smallOf (findingsOf (image m))) (lent m .heads))
       × (n ≡ laid (flat numbersOf (findingsOf (image m))) (lent m .numbers))
   unfolding lintAt identityOf timingsOf lanesHolding
   answered room =
