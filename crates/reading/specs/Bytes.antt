@@ -1,12 +1,16 @@
 -- What reading answers of an image. Assumes nothing.
-use Prim.Native.Nat.{ℕ, _+_}
+use Prim.Native.Nat.{ℕ, _+_, _<_}
 use mathlib.Core.List.{List, []}
 use mathlib.Core.Bool.{Bool, not}
-use lib.ListN.{take, drop}
+use lib.ListN.{take, drop, getD}
 use Rattle.reading.specs.Pick.{pick}
 use Rattle.reading.specs.View.{View, view}
 use Rattle.reading.specs.declared.ByteAt.{ByteAt}
 use Rattle.reading.specs.declared.ByteAt.the-variants.{Byte, Absent}
+
+-- every element is a byte: of a lent slice of bytes this always holds, and only theorems on definitions ask it
+abbrev pub AllBytes : List ℕ → Type 0
+AllBytes s = (i : ℕ) → getD s i 0 < 256
 
 -- the byte at an offset, absent where the image ends before it
 abbrev pub byteAt : View → ℕ → ByteAt

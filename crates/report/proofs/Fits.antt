@@ -5,7 +5,8 @@ use mathlib.Core.Path.{_≡_, _∙_}
 use mathlib.Core.List.{List}
 use native.Mathlib.Omega.{arith}
 use borrow.Author.Tests.{le-ltb}
-use lib.ListN.{length, take, getD}
+use lib.ListN.{length, take}
+use Rattle.reading.specs.Bytes.{AllBytes}
 use Rattle.reading.specs.Said.{Said, gives, refuses}
 use Rattle.findings.specs.declared.Finding.{Finding}
 use Rattle.findings.specs.Hold.{holding}
@@ -31,7 +32,7 @@ flags-few (gives a) (refuses t) = omega arith
 flags-few (refuses t) (gives b) = omega arith
 flags-few (refuses t) (refuses u) = omega arith
 
-module _ (s : List ℕ) (bytes : (i : ℕ) → getD s i 0 < 256) where
+module _ (s : List ℕ) (bytes : AllBytes s) where
   pub lint-fits : (flags room : ℕ) → flags ≤ 3 → foundOf flags (holding (findingsOf s)) room ≡ fitted (length (findingsOf s)) room
   lint-fits flags room h =
       found-held flags (findingsOf s) room (at-most-fifteen s)

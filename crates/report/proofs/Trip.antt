@@ -10,6 +10,7 @@ use borrow.Author.Tests.{eqb-true, ltb-false}
 use lib.Dec.{eqb, ltb}
 use lib.ListN.{length, getD, drop, take, length-append, length-drop, take-append-drop}
 use lib.Seq.{getD-drop, drop-drop}
+use Rattle.reading.specs.Bytes.{AllBytes}
 use Rattle.reading.specs.Pick.{pick, and}
 use Rattle.reading.specs.Said.{Said, gives, refuses, Told}
 use Rattle.findings.specs.declared.Severity.{Severity}
@@ -150,10 +151,6 @@ digits : (a b c d : ℕ) → a < 256 → b < 256 → c < 256 → d < 256
     → ((a * 16777216 + b * 65536 + c * 256 + d) / 16777216 ≡ a) × ((a * 16777216 + b * 65536 + c * 256 + d) / 65536 % 256 ≡ b)
     × ((a * 16777216 + b * 65536 + c * 256 + d) / 256 % 256 ≡ c) × ((a * 16777216 + b * 65536 + c * 256 + d) % 256 ≡ d)
 digits a b c d ha hb hc hd = omega arith
-
--- a list of bytes
-abbrev pub AllBytes : List ℕ → Type 0
-AllBytes s = (i : ℕ) → getD s i 0 < 256
 
 bytes-drop : (k : ℕ) (s : List ℕ) → AllBytes s → AllBytes (drop k s)
 bytes-drop k s h i = rw (getD-drop k s i 0) (h (k + i))

@@ -8,6 +8,7 @@ use lib.Dec.{eqb, ltb, leb}
 use lib.ListN.{length, getD, take, drop}
 use lib.Seq.{getD-drop}
 use Rattle.reading.specs.Said.{Said, gives, refuses, onward, told}
+use Rattle.reading.specs.Bytes.{AllBytes}
 use Rattle.reading.specs.View.{View, view}
 use Rattle.reading.specs.declared.Refusal.{Refusal}
 use Rattle.reading.proofs.Picked.{either}
@@ -124,9 +125,6 @@ content-fits s =
     (either Fits (allIn (findingsIn (drop 5 s) (getD s 4 0))) tt plain)
     plain))))
     plain)))
-
-abbrev pub AllBytes : List ℕ → Type 0
-AllBytes s = (i : ℕ) → getD s i 0 < 256
 
 -- ---- the calls on an image, and on a report
 module _ (s : List ℕ) (room : ℕ) where

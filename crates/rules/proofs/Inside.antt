@@ -10,7 +10,7 @@ use lib.Dec.{eqb, ltb}
 use lib.ListN.{getD}
 use Rattle.reading.specs.View.{View, view}
 use Rattle.reading.specs.Said.{Said, gives, refuses}
-use Rattle.reading.specs.Bytes.{insideAt}
+use Rattle.reading.specs.Bytes.{insideAt, AllBytes}
 use Rattle.reading.proofs.Picked.{either}
 use Rattle.findings.specs.declared.Found.{Found}
 use Rattle.findings.specs.declared.Found.the-variants.{Nothing, One}
@@ -63,7 +63,7 @@ silent : {x : Found} → x ≡ Nothing → Good x
 silent e = rw e tt
 
 -- ---- the regions: offsets are below 510, and values are bytes
-module _ (s : List ℕ) (bytes : (i : ℕ) → getD s i 0 < 256) where
+module _ (s : List ℕ) (bytes : AllBytes s) where
   good-from : (i n : ℕ) → i + n ≤ 65536 → Good (firstFrom (view s) i n)
   unfolding inTable rowOf
   good-from i zero h = tt
@@ -152,7 +152,7 @@ unfolding le16At
 short v at h k = omega arith
 
 -- ---- all sixteen rules
-pub inside : (s : List ℕ) → ((i : ℕ) → getD s i 0 < 256) → allIn (findingsOf s) ≡ true
+pub inside : (s : List ℕ) → AllBytes s → allIn (findingsOf s) ≡ true
 unfolding lintAt
 inside s bytes =
     let v = view s in
