@@ -24,14 +24,15 @@ use denote.Struct.Laws as LL
 use denote.Enum.Enum as ES
 use denote.Enum.Declared as ED
 use denote.Enum.Laws as EL
+use Rattle.reading.specs.Lent.{listed}
 use Rattle.findings.specs.Hold.{holding}
-use Rattle.findings.specs.Lent.{over, placesOf, listed}
+use Rattle.findings.specs.Lent.{placesOf}
 use Rattle.findings.specs.declared.Finding.{Finding}
 use Rattle.findings.specs.declared.Findings.{Findings}
 use Rattle.findings.proofs.Finding.Laws as F′
 use Rattle.findings.proofs.Findings as FS
 use Rattle.findings.proofs.Findings.Laws as FS′
-use Rattle.findings.proofs.Laws.{filled}
+use Rattle.findings.proofs.Laws.{over, filled}
 use Rattle.findings.proofs.Walked.{R, findings-is}
 use Rattle.findings.proofs.fill as fill′
 use Rattle.findings.proofs.fill.Symbol as fill-def
