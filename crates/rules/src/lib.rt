@@ -10,7 +10,8 @@ ghost use Rattle.rules.specs.Table.{orderSub, clockSub, nonIntegerDevice
 ghost use Rattle.rules.specs.Regions.{offsets, lengths, firstFrom, regionAt, regionRules};
 ghost use Rattle.rules.specs.Rules.{deviceCount, capacity, coherence, trcIdentity, ordering, supportedIn, casLatency, clockMultiple, onLadder, standardRate, timingRules, each};
 ghost use Rattle.rules.specs.Lint.{lintSaid, lintOf, replied, listingSaid, listingOf, lintAnswerSaid, lintAnswerOf, findingsOf, ratedFindings, ratedSaid, ratedReplied, ratedOf};
-ghost use Rattle.rules.specs.Lanes.{lanes, severityNumber, severityOf, smallOf, numbersOf, flat, lintNumbersOf, headsAfter, numbersAfter, noted, noteAll, findingAt, recordsOf};
+ghost use Rattle.rules.specs.Lanes.{severityNumber, smallOf, numbersOf, flat, lintNumbersOf, headsAfter, numbersAfter};
+ghost use Rattle.rules.specs.Gathering.{lanes, severityOf, noted, noteAll, findingAt, recordsOf};
 ghost use Rattle.rules.specs.Word.{sum64, le64};
 use decoders::identity::IdentityAndBase;
 use decoders::identity::IdentityAnswer;

@@ -10,7 +10,8 @@ use Rattle.reading.specs.Said.{Said, gives}
 use Rattle.reading.specs.Lent.{laid}
 use Rattle.findings.specs.declared.Finding.{Finding}
 use Rattle.rules.specs.Lint.{Listing, listingSaid, listingOf, lintAnswerSaid, findingsOf}
-use Rattle.rules.specs.Lanes.{smallOf, numbersOf, flat, firstFindings, lintNumbersOf, headsAfter, numbersAfter}
+use Rattle.rules.specs.Lanes.{smallOf, numbersOf, flat, lintNumbersOf, headsAfter, numbersAfter}
+use Rattle.rules.specs.Gathering.{firstFindings}
 use Rattle.rules.specs.declared.LintRecords.{LintRecords}
 use Rattle.rules.specs.declared.LintAnswer.{LintAnswer}
 use Rattle.rules.specs.declared.LintAnswer.the-variants as answer

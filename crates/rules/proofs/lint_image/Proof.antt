@@ -5,8 +5,8 @@ use borrow.Author.Needs.{needs}
 use lib.ListN.{replicate}
 use denote.Ref.{now}
 use Rattle.rules.specs.Lint.{findingsOf, Listing}
-use Rattle.rules.specs.Lanes.{Lanes, lanes, recordsOf, lanesHolding}
-use Rattle.rules.proofs.Gathered.{fresh, records-held}
+use Rattle.rules.specs.Gathering.{lanes, recordsOf}
+use Rattle.rules.proofs.Gathered.{lanesHolding, fresh, records-held}
 use Rattle.rules.proofs.Never.{at-most-fifteen}
 use Rattle.rules.proofs.lint_image.Statement.{statement}
 use Rattle.rules.proofs.lint_image.Tie as tie

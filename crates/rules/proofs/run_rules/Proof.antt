@@ -18,8 +18,9 @@ use Rattle.decoders.specs.Timing.{timingsOf}
 use Rattle.rules.specs.Regions.{regionRules}
 use Rattle.rules.specs.Rules.{identityRules, timingRules, each}
 use Rattle.rules.specs.Lint.{onGiven, lintRules, lintAt, findingsOf, Listing, listingOf}
-use Rattle.rules.specs.Lanes.{Lanes, lanes, smallOf, numbersOf, flat, noteAll, lanesHolding}
-use Rattle.rules.proofs.Gathered.{note-on, row-on, noteAll-lengths, still, all-held}
+use Rattle.rules.specs.Lanes.{smallOf, numbersOf, flat}
+use Rattle.rules.specs.Gathering.{Lanes, lanes, noteAll}
+use Rattle.rules.proofs.Gathered.{lanesHolding, note-on, row-on, noteAll-lengths, still, all-held}
 use Rattle.rules.proofs.Never.{fits}
 use Rattle.rules.proofs.run_rules.Statement.{statement}
 use Rattle.rules.proofs.run_rules.Tie as tie
