@@ -282,7 +282,7 @@ filled-by l xs need e h k = rw e (filled l xs need h k)
 module _ {Y : Type 0} (image : Y → List ℕ) where
   pub lints : (y : Y) (xs : List Finding) (l : Linted) (r : LintAnswer) → lintSaid l ≡ lintOf (image y) → lintAnswerSaid r ≡ replied (length xs) (lintSaid l)
       → (lintAnswerSaid r ≡ lintAnswerOf (image y) xs) × (over (placesOf (length xs) 15 (l .findings .count)) (l .findings .items) xs ≡ listed 15 (findingsOf (image y)) xs)
-  unfolding holding lintAnswerOf
+  unfolding lintAnswerOf
   lints y xs l r e e₂ = (e₂ ∙ ap (replied (length xs)) e, filled-by (findingsOf (image y)) xs 15 (ap (λ (t : Lint). t .findings) e) (at-most-fifteen (image y)) (at-most-fifteen (image y)))
 
   abbrev pub linter : Name → Plan Y

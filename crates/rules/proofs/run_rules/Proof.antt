@@ -11,6 +11,7 @@ use Rattle.reading.specs.View.{view}
 use Rattle.reading.specs.Lent.{laid}
 use Rattle.reading.specs.Said.{Said}
 use Rattle.findings.specs.declared.Found.{Found}
+use Rattle.findings.specs.Hold.{holding}
 use Rattle.decoders.specs.declared.timing.Timings.{Timings}
 use Rattle.decoders.specs.Answers.{identitySaid, timingsSaid}
 use Rattle.decoders.specs.Identity.{identityOf}
@@ -64,7 +65,7 @@ module _ (m : tie.At-match-came) {h n : List ℕ} {k : ℕ} {u : Said Timings} (
       → _≡_ {A = Listing} (record { identity = identitySaid (m .match .identity); timings = u; count = k }) (listingOf (image m))
       × (h ≡ laid (flat smallOf (findingsOf (image m))) (lent m .heads))
       × (n ≡ laid (flat numbersOf (findingsOf (image m))) (lent m .numbers))
-  unfolding lintAt identityOf timingsOf lanesHolding
+  unfolding lintAt identityOf timingsOf lanesHolding holding
   answered room =
       let held : lanes h n k ≡ lanesHolding (lent m .heads) (lent m .numbers) (lintAt (view (image m))) =
       all-held (lent m .heads) (lent m .numbers) (room .0) (room .1) (each lintRules (view (image m))) timed (fits (view (image m))) in (
