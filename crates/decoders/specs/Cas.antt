@@ -6,7 +6,7 @@ use mathlib.Core.List.{List, [], _∷_}
 use lib.ListN.{length}
 use lib.Dec.{leb, ltb, eqb}
 use Rattle.reading.specs.Pick.{pick, and}
-use Rattle.reading.specs.Lent.{laid}
+use Rattle.reading.specs.Lent.{listed}
 use Rattle.reading.specs.Said.{Said, gives, refused}
 use Rattle.decoders.specs.declared.timing.CasLatencies.{CasLatencies}
 
@@ -38,6 +38,6 @@ casList set = listFrom set 0 40
 unfoldable pub casListOf : CasLatencies → List ℕ → Said ℕ
 casListOf set out = pick (ltb (length out) 40) (refused 4 0 0) (gives (length (casList set)))
 
--- the lent list afterwards: as it was under 40 places, and else the latencies in the first places
+-- the lent list afterwards: the latencies in the first places, and as it was under 40
 unfoldable pub casListAfter : CasLatencies → List ℕ → List ℕ
-casListAfter set out = pick (ltb (length out) 40) out (laid (casList set) out)
+casListAfter set out = listed 40 (casList set) out

@@ -7,11 +7,13 @@ use native.Mathlib.Omega.{arith}
 use native.Mathlib.Numerals.{add-one}
 use borrow.Author.Tests.{lt-ltb, le-ltb, ltb-true, ltb-false}
 use lib.Dec.{ltb}
-use lib.ListN.{length, take, drop, set, getD, replicate, length-append, length-drop, length-replicate, replicate-append-replicate}
-use lib.Seq.{length-take-le, drop-cons, take-suc, set-at, take-append-seam, take-length, drop-at}
+use lib.ListN.{length, take, drop, set, getD, replicate, length-append, length-replicate, replicate-append-replicate}
+use lib.Seq.{length-take-le, take-suc, take-append-seam, take-length, drop-at}
+use Rattle.reading.specs.Lent.{laid, listed}
 use Rattle.reading.proofs.Picked.{either, by-test}
+use Rattle.reading.proofs.Laid.{length-laid, laid-next}
 use Rattle.findings.specs.Hold.{blankFinding, blankItems, holding, toList, cat}
-use Rattle.findings.specs.Lent.{over, least, placesOf, loadCount, loadedOf, listed}
+use Rattle.findings.specs.Lent.{least, placesOf, loadCount, loadedOf}
 use Rattle.findings.specs.declared.Finding.{Finding}
 use Rattle.findings.specs.declared.Found.{Found}
 use Rattle.findings.specs.declared.Found.the-variants.{Nothing, One}
@@ -48,14 +50,19 @@ kept-le len = by-test (ltb len 16)
     (λ e. let h = ltb-true len 16 e in rw e (omega arith, omega arith))
     (λ e. rw e (omega arith, omega arith))
 
--- ---- a list with its first places from another
+-- ---- the list ys with its first n places from xs
+abbrev pub over : {X : Type 0} → ℕ → List X → List X → List X
+over n xs ys = laid (take n xs) ys
+
 module _ {X : Type 0} (d : X) (xs ys : List X) where
   pub over-length : (n : ℕ) → n ≤ length xs → n ≤ length ys → length (over n xs ys) ≡ length ys
-  over-length n h k = length-append (take n xs) (drop n ys) ∙ omega (arith, length-take-le n xs h, length-drop n ys)
+  over-length n h k = length-laid (take n xs) ys (omega (arith, length-take-le n xs h))
 
   -- one more place
   pub over-step : (i : ℕ) → i < length xs → i < length ys → set (over i xs ys) i (getD xs i d) ≡ over (i + 1) xs ys
-  over-step i h k = rw (add-one, drop-cons ys i d k, take-suc xs i d h, append-assoc, set-at (take i xs) (getD ys i d) (drop (suc i) ys) (getD xs i d) i (length-take-le i xs (omega arith)))
+  over-step i h k =
+      let e = length-take-le i xs (omega arith) in
+      rw (add-one, take-suc xs i d h) (ap (λ (n : ℕ). set (over i xs ys) n (getD xs i d)) (sym e) ∙ laid-next (take i xs) ys (getD xs i d) (omega arith))
 
 -- ---- what holds a list
 pub list-held : (l : List Finding) → take (holding l .count) (holding l .items) ≡ l
@@ -64,7 +71,7 @@ list-held l = take-append-seam l (replicate (15 - length l) blankFinding)
 
 -- what `fill` leaves, as a caller says it
 pub filled : (l ys : List Finding) (need : ℕ) → length l ≤ 15 → length l ≤ need → over (placesOf (length ys) need (length l)) (holding l .items) ys ≡ listed need l ys
-unfolding holding listed placesOf least
+unfolding holding placesOf least
 filled l ys need h k = by-test (ltb (length ys) need)
     (λ e. rw e)
     (λ e. let m = ltb-false (length ys) need e in

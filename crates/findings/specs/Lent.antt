@@ -1,16 +1,13 @@
--- What stands in a lent list after findings were written to it, and what is read from one. Assumes nothing.
+-- How many findings go into a lent list, and what is read from one. Assumes nothing.
 use Prim.Native.Nat.{ℕ}
-use mathlib.Core.List.{List, _++_}
+use mathlib.Core.List.{List}
 use lib.Dec.{ltb}
-use lib.ListN.{length, take, drop}
+use lib.ListN.{length, take}
 use Rattle.reading.specs.Pick.{pick}
+use Rattle.reading.specs.Lent.{laid}
 use Rattle.findings.specs.Hold.{blankItems}
 use Rattle.findings.specs.declared.Finding.{Finding}
 use Rattle.findings.specs.declared.Findings.{Findings}
-
--- the list ys with its first n places from xs
-abbrev pub over : {X : Type 0} → ℕ → List X → List X → List X
-over n xs ys = take n xs ++ drop n ys
 
 -- the smaller of two numbers
 unfoldable pub least : ℕ → ℕ → ℕ
@@ -26,8 +23,4 @@ loadCount len = pick (ltb len 16) len 0
 
 -- a lent list by value: what is read of it over blank places, beside its length
 abbrev pub loadedOf : List Finding → Findings
-loadedOf ys = record { items = over (loadCount (length ys)) ys blankItems; count = length ys }
-
--- a lent list after a call that writes the findings l and asks for need places: as it was where it has fewer
-unfoldable pub listed : ℕ → List Finding → List Finding → List Finding
-listed need l ys = pick (ltb (length ys) need) ys (l ++ drop (length l) ys)
+loadedOf ys = record { items = laid (take (loadCount (length ys)) ys) blankItems; count = length ys }

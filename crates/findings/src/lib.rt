@@ -1,9 +1,10 @@
 // Findings: the record, fifteen of them by value with a count, and the two loops between those and a lent list.
 // No other function walks a list of records, so the proofs done by hand stand here alone.
 ghost use mathlib.Core.Path.{_≡_};
-ghost use lib.ListN.{length};
+ghost use lib.ListN.{length, take};
+ghost use Rattle.reading.specs.Lent.{laid};
 ghost use Rattle.findings.specs.Hold.{blankFinding, blankItems};
-ghost use Rattle.findings.specs.Lent.{over, placesOf, loadCount, loadedOf};
+ghost use Rattle.findings.specs.Lent.{placesOf, loadCount, loadedOf};
 
 pub enum Severity {
     // The image breaks a rule that it must keep.
@@ -74,7 +75,7 @@ pub fn places(len: usize, need: usize, count: usize) -> usize
 
 // Writes the findings to the front of a lent list, and says how many places it wrote.
 pub fn fill(list: &mut [Finding], need: usize, found: Findings) -> usize
-    ensures { λ r. ⌜ (r ≡ placesOf (length (now (list .entry))) need (found .count)) × (now (list .exit) ≡ over r (found .items) (now (list .entry))) ⌝ }
+    ensures { λ r. ⌜ (r ≡ placesOf (length (now (list .entry))) need (found .count)) × (now (list .exit) ≡ laid (take r (found .items)) (now (list .entry))) ⌝ }
 {
     let n = places(list.len(), need, found.count);
     let items = found.items;

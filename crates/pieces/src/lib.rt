@@ -3,10 +3,10 @@
 ghost use mathlib.Core.Path.{_≡_};
 ghost use Prim.Native.Nat.{_+_, _-_, min, _≤_};
 ghost use lib.ListN.{length, take};
+ghost use Rattle.reading.specs.Lent.{listed};
 ghost use Rattle.decoders.specs.Answers.{identitySaid, timingsSaid};
 ghost use Rattle.decoders.specs.Identity.{identityOf};
 ghost use Rattle.decoders.specs.Timing.{timingsOf};
-ghost use Rattle.findings.specs.Lent.{listed};
 ghost use Rattle.rules.specs.Lint.{lintSaid, lintOf, lintAnswerSaid, lintAnswerOf, findingsOf};
 ghost use Rattle.pieces.specs.Fed.{freshPieces, overlaid, withEight, fedSaid, fedBy, keptOf};
 use decoders::identity::IdentityAnswer;

@@ -1,12 +1,15 @@
--- The view made from an image's few bytes is the view of its list of bytes. Assumes nothing.
+-- The view of an image made from a few bytes, which computes without walking the list of all its bytes. Assumes nothing.
 use Prim.Native.Nat.{ℕ, zero, suc, zero-le, suc-le-suc}
 use mathlib.Core.Path.{_≡_, refl, ap}
 use lib.ListN.{length, getD}
 use lib.Dec.{ltb, leb·suc-suc, leb·suc-zero}
 use borrow.Author.Tests.{lt-ltb}
 use Rattle.reading.specs.Pick.{pick}
-use Rattle.reading.specs.View.{view}
-use Rattle.reading.specs.Made.{Image, sparse, firsts, bytesOf, made}
+use Rattle.reading.specs.View.{View, view}
+use Rattle.reading.specs.Made.{Image, sparse, firsts, bytesOf}
+
+abbrev pub made : Image → View
+made image = record { below = λ n. ltb (image .size) n; byte = λ i. pick (ltb i (image .size)) (sparse (image .nonzero) i) 0 }
 
 length-firsts : (n : ℕ) (f : ℕ → ℕ) → length (firsts n f) ≡ n
 unfolding firsts

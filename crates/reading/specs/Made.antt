@@ -1,9 +1,8 @@
--- Images made from a few bytes: as the list of all their bytes, and as a view that computes without walking that list. Assumes nothing.
+-- Images made from a few bytes, as the list of all their bytes. Assumes nothing.
 use Prim.Native.Nat.{ℕ, zero, suc}
 use mathlib.Core.List.{List, [], _∷_}
-use lib.Dec.{eqb, ltb}
+use lib.Dec.{eqb}
 use Rattle.reading.specs.Pick.{pick}
-use Rattle.reading.specs.View.{View}
 
 -- how many bytes, and those that are not zero, each by its offset
 pub record Image : Type 0 where
@@ -23,7 +22,3 @@ firsts (suc n) f = f 0 ∷ firsts n (λ i. f (suc i))
 -- the image's bytes
 abbrev pub bytesOf : Image → List ℕ
 bytesOf image = firsts (image .size) (sparse (image .nonzero))
-
--- the view of them: proofs/Made.antt
-abbrev pub made : Image → View
-made image = record { below = λ n. ltb (image .size) n; byte = λ i. pick (ltb i (image .size)) (sparse (image .nonzero) i) 0 }

@@ -13,11 +13,11 @@ use Rattle.findings.specs.declared.Finding.{Finding}
 use Rattle.findings.specs.declared.Findings.{Findings}
 use Rattle.replay.specs.declared.Cursor.{Cursor}
 use Rattle.replay.specs.Held.{heldAll}
-use Rattle.replay.specs.Answers.{findingNumbers, rowNumbers, listNumbers, foundNumbers}
+use Rattle.replay.specs.Answers.{findingRecord, rowNumbers, listNumbers, foundNumbers}
 
 module _ (n : ℕ) (xs : List Finding) (h : n ≤ length xs) where
   pub next-row : (v : View) (c : Cursor) (i : ℕ) → i < n
-      → heldAll v c (rowNumbers (drop i (take n xs))) ≡ heldAll v (heldAll v c (findingNumbers (getD xs i blankFinding))) (rowNumbers (drop (i + 1) (take n xs)))
+      → heldAll v c (rowNumbers (drop i (take n xs))) ≡ heldAll v (heldAll v c (findingRecord (getD xs i blankFinding))) (rowNumbers (drop (i + 1) (take n xs)))
   next-row v c i k =
       let l = length-take-le n xs h in
       rw (add-one, drop-cons (take n xs) i blankFinding (omega arith), getD-take n xs i blankFinding k)

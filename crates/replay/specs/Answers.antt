@@ -25,8 +25,8 @@ rankOf Info = 3
 abbrev pub refusalNumbers : Told → List ℕ
 refusalNumbers t = t .number ∷ t .first ∷ t .second ∷ []
 
-abbrev pub identityNumbers : IdentityAndBase → List ℕ
-identityNumbers d =
+abbrev pub identityRecord : IdentityAndBase → List ℕ
+identityRecord d =
     0
     ∷ d .«spd_bytes_total»
     ∷ d .«spd_revision» .major
@@ -48,8 +48,8 @@ identityNumbers d =
     ∷ d .«primary_bus_width_bits»
     ∷ []
 
-abbrev pub timingNumbers : Timings → List ℕ
-timingNumbers t =
+abbrev pub timingRecord : Timings → List ℕ
+timingRecord t =
     0
     ∷ t .«tckavg_min» .0
     ∷ t .«tckavg_max» .0
@@ -72,13 +72,13 @@ timingNumbers t =
     ∷ t .trtp .time .0 ∷ t .trtp .clocks .0
     ∷ []
 
-abbrev pub findingNumbers : Finding → List ℕ
-findingNumbers f = f .code ∷ rankOf (f .severity) ∷ f .sub ∷ f .first ∷ f .second ∷ f .third ∷ []
+abbrev pub findingRecord : Finding → List ℕ
+findingRecord f = f .code ∷ rankOf (f .severity) ∷ f .sub ∷ f .first ∷ f .second ∷ f .third ∷ []
 
 -- findings one behind the other, behind their count, and those of an array
 abbrev pub rowNumbers : List Finding → List ℕ
 rowNumbers [] = []
-rowNumbers (f ∷ fs) = findingNumbers f ++ rowNumbers fs
+rowNumbers (f ∷ fs) = findingRecord f ++ rowNumbers fs
 
 abbrev pub listNumbers : List Finding → List ℕ
 listNumbers l = length l ∷ rowNumbers l

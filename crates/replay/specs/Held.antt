@@ -15,8 +15,8 @@ abbrev pub le32In : View → ℕ → ℕ
 le32In v at = le16In v at + 65536 * le16In v (at + 2)
 
 -- a number: one byte below 254, or 254 and 16 bits, or 255 and 32 bits
-unfoldable pub numberIn : View → ℕ → ℕ
-numberIn v at = pick (ltb (v .byte at) 254) (v .byte at) (pick (eqb (v .byte at) 254) (le16In v (at + 1)) (le32In v (at + 1)))
+unfoldable pub packedIn : View → ℕ → ℕ
+packedIn v at = pick (ltb (v .byte at) 254) (v .byte at) (pick (eqb (v .byte at) 254) (le16In v (at + 1)) (le32In v (at + 1)))
 
 -- the place behind it
 unfoldable pub behind : View → ℕ → ℕ
@@ -26,7 +26,7 @@ behind v at = pick (ltb (v .byte at) 254) (at + 1) (pick (eqb (v .byte at) 254) 
 unfoldable pub held : View → Cursor → ℕ → Cursor
 held v c n =
     pick (ltb 65535 (c .at)) (record { at = c .at; same = false })
-    (record { at = behind v (c .at); same = pick (eqb (numberIn v (c .at)) n) (c .same) false })
+    (record { at = behind v (c .at); same = pick (eqb (packedIn v (c .at)) n) (c .same) false })
 
 -- the same for a list of numbers, one behind the other
 abbrev pub heldAll : View → Cursor → List ℕ → Cursor
@@ -36,4 +36,4 @@ heldAll v c (n ∷ ns) = heldAll v (held v c n) ns
 -- the numbers that stand from a place on, so many of them
 abbrev pub numbersFrom : View → (at count : ℕ) → List ℕ
 numbersFrom v at zero = []
-numbersFrom v at (suc count) = numberIn v at ∷ numbersFrom v (behind v at) count
+numbersFrom v at (suc count) = packedIn v at ∷ numbersFrom v (behind v at) count

@@ -29,9 +29,9 @@ ghost use Rattle.reading.specs.Said.{told};
 ghost use Rattle.decoders.specs.Identity.{identityOf};
 ghost use Rattle.decoders.specs.Timing.{timingsOf};
 ghost use Rattle.rules.specs.Lint.{findingsOf};
-ghost use Rattle.replay.specs.Held.{le16In, le32In, numberIn, behind, held, heldAll};
-ghost use Rattle.replay.specs.Answers.{bitOf, rankOf, refusalNumbers, identityNumbers, timingNumbers, saidNumbers, rateNumbers};
-ghost use Rattle.replay.specs.Answers.{findingNumbers, rowNumbers, listNumbers, foundNumbers};
+ghost use Rattle.replay.specs.Held.{le16In, le32In, packedIn, behind, held, heldAll};
+ghost use Rattle.replay.specs.Answers.{bitOf, rankOf, refusalNumbers, identityRecord, timingRecord, saidNumbers, rateNumbers};
+ghost use Rattle.replay.specs.Answers.{findingRecord, rowNumbers, listNumbers, foundNumbers};
 use decoders::identity::IdentityAndBase;
 use decoders::identity::IdentityAnswer;
 use decoders::timing::CasLatencies;
@@ -151,7 +151,7 @@ fn le32(bytes: &[u8], at: usize) -> u32
 // The number at a place of a record.
 fn number(record: &[u8], at: usize) -> Numeral
     requires { ⌜ at < 65536 ⌝ }
-    ensures { λ r. ⌜ (r .value ≡ numberIn (view (now («record» .entry))) at) × (r .next ≡ behind (view (now («record» .entry))) at) ⌝ }
+    ensures { λ r. ⌜ (r .value ≡ packedIn (view (now («record» .entry))) at) × (r .next ≡ behind (view (now («record» .entry))) at) ⌝ }
 {
     let head = reading::byte_or_zero(record, at);
     if head < 254 {
@@ -215,7 +215,7 @@ fn expect_refusal(record: &[u8], c: Cursor, why: Refusal) -> Cursor
 }
 
 fn expect_identity(record: &[u8], c: Cursor, d: IdentityAndBase) -> Cursor
-    ensures { λ r. ⌜ r ≡ heldAll (view (now («record» .entry))) c (identityNumbers d) ⌝ }
+    ensures { λ r. ⌜ r ≡ heldAll (view (now («record» .entry))) c (identityRecord d) ⌝ }
 {
     let device_type = d.device_type;
     let module_type = d.module_type;
@@ -249,7 +249,7 @@ fn expect_identity(record: &[u8], c: Cursor, d: IdentityAndBase) -> Cursor
 }
 
 fn expect_timings(record: &[u8], c: Cursor, t: Timings) -> Cursor
-    ensures { λ r. ⌜ r ≡ heldAll (view (now («record» .entry))) c (timingNumbers t) ⌝ }
+    ensures { λ r. ⌜ r ≡ heldAll (view (now («record» .entry))) c (timingRecord t) ⌝ }
 {
     let numbers = [
         0,
@@ -320,7 +320,7 @@ fn rank(s: Severity) -> u32
 }
 
 fn expect_finding(record: &[u8], c: Cursor, f: Finding) -> Cursor
-    ensures { λ r. ⌜ r ≡ heldAll (view (now («record» .entry))) c (findingNumbers f) ⌝ }
+    ensures { λ r. ⌜ r ≡ heldAll (view (now («record» .entry))) c (findingRecord f) ⌝ }
 {
     let severity = f.severity;
     let numbers = [
@@ -378,7 +378,7 @@ fn profile_of(image: &[u8]) -> Profile {
 
 // The answers of an image, each against the record's numbers from a place on.
 fn check_identity(record: &[u8], c: Cursor, image: &[u8]) -> Cursor
-    ensures { λ r. ⌜ r ≡ heldAll (view (now («record» .entry))) c (saidNumbers identityNumbers (identityOf (now (image .entry)))) ⌝ }
+    ensures { λ r. ⌜ r ≡ heldAll (view (now («record» .entry))) c (saidNumbers identityRecord (identityOf (now (image .entry)))) ⌝ }
 {
     match decoders::identity::decode_identity_and_base(image) {
         IdentityAnswer::Decoded(d) => expect_identity(record, c, d),
@@ -387,7 +387,7 @@ fn check_identity(record: &[u8], c: Cursor, image: &[u8]) -> Cursor
 }
 
 fn check_timings(record: &[u8], c: Cursor, image: &[u8]) -> Cursor
-    ensures { λ r. ⌜ r ≡ heldAll (view (now («record» .entry))) c (saidNumbers timingNumbers (timingsOf (now (image .entry)))) ⌝ }
+    ensures { λ r. ⌜ r ≡ heldAll (view (now («record» .entry))) c (saidNumbers timingRecord (timingsOf (now (image .entry)))) ⌝ }
 {
     match decoders::timing::decode_timings(image) {
         TimingsAnswer::Decoded(t) => expect_timings(record, c, t),

@@ -12,8 +12,8 @@ use Rattle.reading.proofs.Picked.{by-test}
 use Rattle.findings.specs.declared.Finding.{Finding}
 use Rattle.findings.specs.declared.Findings.{Findings}
 use Rattle.findings.specs.Hold.{holding}
-use Rattle.findings.specs.Lent.{over, placesOf, loadedOf}
-use Rattle.findings.proofs.Laws.{load-held, list-held, filled}
+use Rattle.findings.specs.Lent.{placesOf, loadedOf}
+use Rattle.findings.proofs.Laws.{over, load-held, list-held, filled}
 use Rattle.report.specs.Write.{writeOf, foundOf, writtenOver}
 use Rattle.report.specs.Read.{Content, contentOf, contained, readingOf, readAfter}
 use Rattle.report.proofs.Trip.{reportable-read}

@@ -14,11 +14,10 @@ use Rattle.findings.specs.declared.Severity.the-variants.{Error}
 use Rattle.findings.specs.declared.Finding.{Finding}
 use Rattle.findings.specs.declared.Findings.{Findings}
 use Rattle.findings.specs.Hold.{blankItems, holding}
-use Rattle.findings.specs.Lent.{over}
-use Rattle.findings.proofs.Laws.{kept-few, over-step, load-held}
+use Rattle.findings.proofs.Laws.{kept-few, over, over-step, load-held}
 use Rattle.rules.specs.Table.{finding, inTable, allIn}
-use Rattle.rules.specs.Lanes as rules
-use Rattle.rules.specs.Lanes.{firstFindings}
+use Rattle.rules.specs.Gathering as rules
+use Rattle.rules.specs.Gathering.{firstFindings}
 use Rattle.rules.proofs.Gathered.{length-first}
 use Rattle.report.specs.Form.{findingBytes, bodyOf, headOf, reportOf, findingIn, findingsIn}
 use Rattle.report.proofs.Form.{length-body}

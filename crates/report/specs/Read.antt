@@ -5,11 +5,11 @@ use mathlib.Core.List.{List, []}
 use lib.Dec.{ltb, eqb}
 use lib.ListN.{length, getD, drop}
 use Rattle.reading.specs.Pick.{pick}
+use Rattle.reading.specs.Lent.{listed}
 use Rattle.reading.specs.Said.{Said, gives, refuses, refused, told, onward}
 use Rattle.findings.specs.declared.Finding.{Finding}
 use Rattle.findings.specs.declared.Findings.{Findings}
 use Rattle.findings.specs.Hold.{holding}
-use Rattle.findings.specs.Lent.{listed}
 use Rattle.rules.specs.Table.{allIn}
 use Rattle.report.specs.Form.{restOf, findingsIn}
 use Rattle.report.specs.declared.ReadAnswer.{ReadAnswer}

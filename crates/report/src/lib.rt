@@ -6,7 +6,7 @@ ghost use mathlib.Core.List.{[], _∷_, _++_};
 ghost use lib.ListN.{length, drop, take};
 ghost use Rattle.reading.specs.Lent.{laid};
 ghost use Rattle.rules.specs.Table.{rowOf, inTable, allIn, same};
-ghost use Rattle.rules.specs.Lanes.{firstFindings};
+ghost use Rattle.rules.specs.Gathering.{firstFindings};
 ghost use Rattle.report.specs.Table.{Limited, inLimits};
 ghost use Rattle.report.specs.Form.{bigEndian, reportOf, restOf, numberIn, findingIn, findingsIn};
 ghost use Rattle.report.specs.Write.{writeSaid, writeOf, writtenOver, fitted, foundOf, lintReportOf, lintReportAfter, flagsOf};

@@ -1,7 +1,6 @@
 -- Every line of the bench holds: by computation over the views that the images make, which are the views of their bytes. Assumes nothing.
 use mathlib.Core.Path.{refl, subst⁻¹, fun-ext}
-use Rattle.reading.specs.Made.{made}
-use Rattle.reading.proofs.Made.{view-made}
+use Rattle.reading.proofs.Made.{made, view-made}
 use Rattle.decoders.specs.Codes.{sizeOf, deviceOf, moduleOf, densityOf, packageOf, ioWidthOf, bankGroupsOf, banksOf, busWidthOf, channelsOf}
 use Rattle.decoders.specs.Timing.{le16At, casAt}
 use Rattle.rules.specs.Rules.{onLadder}

@@ -19,7 +19,8 @@ use Rattle.findings.specs.declared.Found.{Found}
 use Rattle.findings.specs.declared.Found.the-variants.{Nothing, One}
 use Rattle.findings.specs.Hold.{blankFinding, holding, toList, cat}
 use Rattle.findings.proofs.Laws.{kept-few}
-use Rattle.rules.specs.Lanes.{Lanes, lanes, severityNumber, severityOf, Three, smallOf, numbersOf, joined, stored, threeAt, noted, noteAll, findingAt, firstFindings, recordsOf, flat, lanesHolding}
+use Rattle.rules.specs.Lanes.{severityNumber, Three, smallOf, numbersOf, flat}
+use Rattle.rules.specs.Gathering.{Lanes, lanes, severityOf, joined, stored, threeAt, noted, noteAll, findingAt, firstFindings, recordsOf}
 
 -- ---- three numbers in a row of a flat list
 set-past : (p q : List ℕ) (k v : ℕ) → set (p ++ q) (length p + k) v ≡ p ++ set q k v
@@ -61,6 +62,10 @@ module _ (t : Finding → Three) where
       rw (e₁, e₂, e₀) (lane-at l r k (omega arith))
 
 -- ---- noting
+-- the arrays and the count that hold a list of findings, where the arrays were h and n
+unfoldable pub lanesHolding : (h n : List ℕ) → List Finding → Lanes
+lanesHolding h n l = lanes (laid (flat smallOf l) h) (laid (flat numbersOf l) n) (length l)
+
 -- fresh arrays, and arrays with room
 abbrev pub fresh : Lanes
 fresh = lanes (replicate 45 0) (replicate 45 0) 0

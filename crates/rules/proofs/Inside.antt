@@ -1,4 +1,5 @@
--- Every finding of an image is inside document 01's report table. Assumes nothing.
+-- Every finding is inside document 01's report table: an image's, a rated profile's, and the package rule's of any package and die count.
+-- Assumes nothing.
 use Prim.Native.Nat.{ℕ, zero, suc, _+_, _/_, _%_, _<_, _≤_}
 use mathlib.Core.Path.{_≡_, refl}
 use mathlib.Core.List.{List, [], _∷_, _++_, map}
@@ -14,12 +15,14 @@ use Rattle.reading.specs.Bytes.{insideAt, AllBytes}
 use Rattle.reading.proofs.Picked.{either}
 use Rattle.findings.specs.declared.Found.{Found}
 use Rattle.findings.specs.declared.Found.the-variants.{Nothing, One}
-use Rattle.findings.specs.Hold.{cat}
+use Rattle.findings.specs.Hold.{toList, cat}
 use Rattle.decoders.specs.Codes.{bitsIn}
 use Rattle.decoders.specs.Cas.{inSet}
 use Rattle.decoders.specs.Identity.{identityAt}
 use Rattle.decoders.specs.Timing.{le16At, timesAt, timingsAt, rateOf}
 use Rattle.decoders.specs.declared.identity.IdentityAndBase.{IdentityAndBase}
+use Rattle.decoders.specs.declared.identity.PackageType.{PackageType}
+use Rattle.decoders.specs.declared.identity.PackageType.the-variants.{Monolithic, DualDie, ThreeDs}
 use Rattle.decoders.specs.declared.identity.IoWidth.{IoWidth}
 use Rattle.decoders.specs.declared.identity.IoWidth.the-variants.{X4, X8, X16, X32}
 use Rattle.decoders.specs.declared.timing.CasLatencies.{CasLatencies}
@@ -28,11 +31,13 @@ use Rattle.rules.specs.declared.TimingOrder.{TimingOrder}
 use Rattle.rules.specs.declared.TimingOrder.the-variants.{RasGeRcd, RcGeRas}
 use Rattle.rules.specs.declared.ClockTimingParam.{ClockTimingParam}
 use Rattle.rules.specs.declared.ClockTimingParam.the-variants.{Trcd, Trp}
-use Rattle.rules.specs.declared.SupportedSet.the-variants.{Known}
-use Rattle.rules.specs.Table.{nonIntegerDeviceCount, timingOrderingViolation, nonIntegerClockTiming, rowOf, inTable, allIn}
+use Rattle.rules.specs.declared.SupportedSet.{SupportedSet}
+use Rattle.rules.specs.declared.SupportedSet.the-variants.{Unknown, Known}
+use Rattle.rules.specs.declared.RatedTimings.{RatedTimings}
+use Rattle.rules.specs.Table.{nonIntegerDeviceCount, timingOrderingViolation, nonIntegerClockTiming, packageDieCountMismatch, rowOf, inTable, allIn}
 use Rattle.rules.specs.Regions.{firstFrom, regionAt, regionRules}
-use Rattle.rules.specs.Rules.{deviceCount, trcIdentity, ordering, casLatency, clockMultiple, onLadder, standardRate, identityRules, timingRules, each}
-use Rattle.rules.specs.Lint.{onGiven, lintRules, lintAt, findingsOf}
+use Rattle.rules.specs.Rules.{deviceCount, coherence, trcIdentity, ordering, supported, casLatency, clockMultiple, onLadder, standardRate, identityRules, timingRules, ratedRules, each}
+use Rattle.rules.specs.Lint.{onGiven, lintRules, lintAt, findingsOf, ratedFindings}
 use Rattle.rules.proofs.Never.{OfGiven, Decoded, decoded}
 
 -- a rule's answer that adds nothing outside the table, and a row of such answers
@@ -116,13 +121,13 @@ listed-order RcGeRas larger smaller = refl
 good-order : (o : TimingOrder) (larger smaller : ℕ) → Good (ordering o larger smaller)
 good-order o larger smaller = either Good (ltb larger smaller) (listed-order o larger smaller) tt
 
-good-cas : (taa tck : ℕ) (set : CasLatencies) → taa ≤ 65535 → Good (casLatency taa tck (Known set))
+good-supported : (cl : ℕ) (set : CasLatencies) → cl ≤ 65535 → Good (supported (Known set) cl)
 unfolding inTable rowOf
-good-cas taa tck set h =
-    either Good (eqb tck 0) tt
-    (either Good (eqb (taa % tck) 0)
-    (either Good (inSet set (taa / tck)) tt (rw (le-leb (taa / tck) 65535 (omega (arith, div-le-self taa tck)))))
-    refl)
+good-supported cl set h = either Good (inSet set cl) tt (rw (le-leb cl 65535 h))
+
+good-cas : (taa tck : ℕ) (set : SupportedSet) → Good (supported set (taa / tck)) → Good (casLatency taa tck set)
+unfolding inTable rowOf
+good-cas taa tck set h = either Good (eqb tck 0) tt (either Good (eqb (taa % tck) 0) h refl)
 
 listed-clock : (p : ClockTimingParam) (value tck : ℕ) → inTable (nonIntegerClockTiming p value tck) ≡ true
 unfolding inTable rowOf
@@ -141,7 +146,7 @@ good-timings t h =
     more (good-trc (t .trc .0) (t .tras .0) (t .trp .0))
     (more (good-order RasGeRcd (t .tras .0) (t .trcd .0))
     (more (good-order RcGeRas (t .trc .0) (t .tras .0))
-    (more (good-cas (t .taa .0) (t .«tckavg_min» .0) (t .«supported_cas_latencies») h)
+    (more (good-cas (t .taa .0) (t .«tckavg_min» .0) (Known (t .«supported_cas_latencies»)) (good-supported (t .taa .0 / t .«tckavg_min» .0) (t .«supported_cas_latencies») (omega (arith, div-le-self (t .taa .0) (t .«tckavg_min» .0)))))
     (more (good-clock Trcd (t .trcd .0) (t .«tckavg_min» .0))
     (more (good-clock Trp (t .trp .0) (t .«tckavg_min» .0))
     (more (good-rate (rateOf (t .«tckavg_min» .0))) done))))))
@@ -163,3 +168,33 @@ inside s bytes =
     (goods-append
     (goods-given identityRules (identityAt v) (good-identity (identityAt v) (decoded v)))
     (goods-given timingRules (timingsAt v) timed)))
+
+-- ---- the package rule, which a decoded image never breaks, of any package and any die count that a byte holds
+listed-package : (p : PackageType) (dies : ℕ) → dies ≤ 255 → inTable (packageDieCountMismatch p dies) ≡ true
+unfolding inTable rowOf
+listed-package Monolithic dies h = rw (le-leb dies 255 h)
+listed-package DualDie dies h = rw (le-leb dies 255 h)
+listed-package ThreeDs dies h = rw (le-leb dies 255 h)
+
+good-package : (p : PackageType) (dies : ℕ) → dies ≤ 255 → Good (coherence p dies)
+good-package Monolithic dies h = either Good (eqb dies 1) tt (listed-package Monolithic dies h)
+good-package DualDie dies h = either Good (ltb 1 dies) tt (listed-package DualDie dies h)
+good-package ThreeDs dies h = either Good (ltb 1 dies) tt (listed-package ThreeDs dies h)
+
+good-in : (x : Found) → Good x → allIn (toList x) ≡ true
+good-in Nothing h = refl
+good-in (One f) h = rw h
+
+pub package-inside : (p : PackageType) (dies : ℕ) → dies ≤ 255 → allIn (toList (coherence p dies)) ≡ true
+package-inside p dies h = good-in (coherence p dies) (good-package p dies h)
+
+-- ---- a rated profile, of any numbers: its set is not known, so no CL is asked for
+pub rated-inside : (r : RatedTimings) → allIn (ratedFindings r) ≡ true
+unfolding ratedFindings
+rated-inside r =
+    goods-in (each ratedRules r)
+    (more (good-order RasGeRcd (r .tras .0) (r .trcd .0))
+    (more (good-cas (r .taa .0) (r .«cycle_time» .0) Unknown tt)
+    (more (good-clock Trcd (r .trcd .0) (r .«cycle_time» .0))
+    (more (good-clock Trp (r .trp .0) (r .«cycle_time» .0))
+    (more (good-rate (r .«data_rate_mt_s»)) done)))))

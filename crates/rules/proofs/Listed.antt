@@ -24,14 +24,15 @@ use denote.Struct.Laws as LL
 use denote.Enum.Enum as ES
 use denote.Enum.Declared as ED
 use denote.Enum.Laws as EL
+use Rattle.reading.specs.Lent.{listed}
 use Rattle.findings.specs.Hold.{holding}
-use Rattle.findings.specs.Lent.{over, placesOf, listed}
+use Rattle.findings.specs.Lent.{placesOf}
 use Rattle.findings.specs.declared.Finding.{Finding}
 use Rattle.findings.specs.declared.Findings.{Findings}
 use Rattle.findings.proofs.Finding.Laws as F′
 use Rattle.findings.proofs.Findings as FS
 use Rattle.findings.proofs.Findings.Laws as FS′
-use Rattle.findings.proofs.Laws.{filled}
+use Rattle.findings.proofs.Laws.{over, filled}
 use Rattle.findings.proofs.Walked.{R, findings-is}
 use Rattle.findings.proofs.fill as fill′
 use Rattle.findings.proofs.fill.Symbol as fill-def
@@ -281,7 +282,7 @@ filled-by l xs need e h k = rw e (filled l xs need h k)
 module _ {Y : Type 0} (image : Y → List ℕ) where
   pub lints : (y : Y) (xs : List Finding) (l : Linted) (r : LintAnswer) → lintSaid l ≡ lintOf (image y) → lintAnswerSaid r ≡ replied (length xs) (lintSaid l)
       → (lintAnswerSaid r ≡ lintAnswerOf (image y) xs) × (over (placesOf (length xs) 15 (l .findings .count)) (l .findings .items) xs ≡ listed 15 (findingsOf (image y)) xs)
-  unfolding holding lintAnswerOf
+  unfolding lintAnswerOf
   lints y xs l r e e₂ = (e₂ ∙ ap (replied (length xs)) e, filled-by (findingsOf (image y)) xs 15 (ap (λ (t : Lint). t .findings) e) (at-most-fifteen (image y)) (at-most-fifteen (image y)))
 
   abbrev pub linter : Name → Plan Y

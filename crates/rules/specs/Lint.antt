@@ -64,8 +64,11 @@ pub record Listing : Type 0 where
   pub timings : Said Timings
   pub count : ℕ
 
+abbrev pub listing : Lint → Listing
+listing l = record { identity = l .identity; timings = l .timings; count = l .findings .count }
+
 abbrev pub listingOf : List ℕ → Listing
-listingOf s = record { identity = identityOf s; timings = timingsOf s; count = length (findingsOf s) }
+listingOf s = listing (lintOf s)
 
 abbrev pub listingSaid : LintRecords → Listing
 listingSaid r = record { identity = identitySaid (r .identity); timings = timingsSaid (r .timings); count = r .count }
@@ -74,16 +77,14 @@ abbrev pub lintAnswerSaid : LintAnswer → Said Listing
 lintAnswerSaid (answer.Listed r) = gives (listingSaid r)
 lintAnswerSaid (answer.Refused why) = refuses (told why)
 
--- a lint, as it is answered for a list of so many places
-abbrev pub replied : ℕ → Lint → Said Listing
-replied len l =
-    pick (ltb len 15) (refused 4 0 0) (gives (record { identity = l .identity; timings = l .timings; count = l .findings .count }))
+-- a lint, as it is answered for a list of so many places: refusal 4 under fifteen
+abbrev pub replied : (len : ℕ) → Lint → Said Listing
+replied len l = pick (ltb len 15) (refused 4 0 0) (gives (listing l))
 
--- refusal 4 under fifteen places
 unfoldable pub lintAnswerOf : List ℕ → List Finding → Said Listing
-lintAnswerOf s list = pick (ltb (length list) 15) (refused 4 0 0) (gives (listingOf s))
+lintAnswerOf s list = replied (length list) (lintOf s)
 
--- the findings of a rated profile, and refusal 4 under five places
+-- the findings of a rated profile
 unfoldable pub ratedFindings : RatedTimings → List Finding
 ratedFindings r = cat (each ratedRules r)
 
@@ -91,6 +92,7 @@ abbrev pub ratedSaid : RatedAnswer → Said ℕ
 ratedSaid (rated.Listed n) = gives n
 ratedSaid (rated.Refused why) = refuses (told why)
 
+-- their count, as it is answered for a list of so many places: refusal 4 under five
 abbrev pub ratedReplied : (len count : ℕ) → Said ℕ
 ratedReplied len count = pick (ltb len 5) (refused 4 0 0) (gives count)
 

@@ -10,7 +10,7 @@ use Rattle.findings.specs.declared.Found.{Found}
 use Rattle.findings.specs.declared.Found.the-variants.{Nothing, One}
 use Rattle.rules.specs.Table.{reservedBytesNonzero}
 
--- the seven regions, as two tables
+-- the seven regions, as two tables: where each starts, and how many bytes it has
 abbrev pub offsets : List ℕ
 offsets = 15 ∷ 29 ∷ 103 ∷ 128 ∷ 214 ∷ 236 ∷ 448 ∷ []
 
@@ -25,6 +25,12 @@ firstFrom v i (suc n) = pick (eqb (v .byte i) 0) (firstFrom v (suc i) n) (One (r
 abbrev pub regionAt : (offset len : ℕ) → View → Found
 regionAt offset len v = pick (insideAt v offset len) (firstFrom v offset len) Nothing
 
--- the rules on the seven regions, in order
+-- what is made of each place of two tables
+abbrev pub zipped : {A : Type 0} → (ℕ → ℕ → A) → List ℕ → List ℕ → List A
+zipped f [] ys = []
+zipped f (x ∷ xs) [] = []
+zipped f (x ∷ xs) (y ∷ ys) = f x y ∷ zipped f xs ys
+
+-- the rules on the regions, in order
 abbrev pub regionRules : List (View → Found)
-regionRules = regionAt 15 1 ∷ regionAt 29 1 ∷ regionAt 103 25 ∷ regionAt 128 64 ∷ regionAt 214 16 ∷ regionAt 236 4 ∷ regionAt 448 62 ∷ []
+regionRules = zipped regionAt offsets lengths

@@ -14,8 +14,8 @@ use Rattle.findings.proofs.Walk.{URA, fullShare, Ty, named, mut, w64, t
 use denote.Struct.Laws as LL
 use Rattle.reading.proofs.Picked.{by-test}
 use Rattle.findings.specs.Hold.{blankFinding}
-use Rattle.findings.specs.Lent.{over, placesOf}
-use Rattle.findings.proofs.Laws.{places-le, over-length, over-step}
+use Rattle.findings.specs.Lent.{placesOf}
+use Rattle.findings.proofs.Laws.{places-le, over, over-length, over-step}
 use Rattle.findings.specs.declared.Finding.{Finding}
 use Rattle.findings.specs.declared.Findings.{Findings}
 use Rattle.findings.proofs.Finding.Laws as F′

@@ -14,8 +14,8 @@ use Rattle.findings.proofs.Walk.{URA, fullShare, Ty, named, imm, w64, t
 use denote.Struct.Laws as LL
 use Rattle.reading.proofs.Picked.{by-test}
 use Rattle.findings.specs.Hold.{blankFinding, blankItems}
-use Rattle.findings.specs.Lent.{over, loadCount, loadedOf}
-use Rattle.findings.proofs.Laws.{kept-le, over-length, over-step}
+use Rattle.findings.specs.Lent.{loadCount, loadedOf}
+use Rattle.findings.proofs.Laws.{kept-le, over, over-length, over-step}
 use Rattle.findings.specs.declared.Finding.{Finding}
 use Rattle.findings.specs.declared.Findings.{Findings}
 use Rattle.findings.proofs.Finding as F

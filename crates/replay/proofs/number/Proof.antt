@@ -1,13 +1,13 @@
--- `replay::number` meets its contract: its tests are those of `numberIn` and `behind`. Assumes nothing.
+-- `replay::number` meets its contract: its tests are those of `packedIn` and `behind`. Assumes nothing.
 use mathlib.Core.Path.{_∙_}
 use borrow.Author.Needs.{needs}
 use borrow.Author.Tests.{lt-ltb, le-ltb, eq-eqb, ne-eqb}
-use Rattle.replay.specs.Held.{numberIn, behind}
+use Rattle.replay.specs.Held.{packedIn, behind}
 use Rattle.replay.proofs.number.Statement.{statement}
 use Rattle.replay.proofs.number.Tie as tie
 
 pub number-spec : {M : Type 1} → statement M
-unfolding numberIn behind
+unfolding packedIn behind
 number-spec =
     tie.close
     (tie.spec

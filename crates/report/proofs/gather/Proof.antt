@@ -6,8 +6,7 @@ use borrow.Author.Needs.{needs}
 use lib.ListN.{take, drop, length-take, length-drop}
 use Rattle.findings.specs.declared.Findings.{Findings}
 use Rattle.findings.specs.Hold.{blankItems, holding}
-use Rattle.findings.specs.Lent.{over}
-use Rattle.findings.proofs.Laws.{list-held}
+use Rattle.findings.proofs.Laws.{over, list-held}
 use Rattle.rules.specs.Table.{allIn}
 use Rattle.report.specs.Form.{findingsIn}
 use Rattle.report.proofs.Turns.{length-findings, next-kept, all-kept}

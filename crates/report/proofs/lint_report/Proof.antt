@@ -9,8 +9,10 @@ use lib.ListN.{length, replicate}
 use Rattle.reading.specs.Said.{Said, gives}
 use Rattle.reading.specs.Lent.{laid}
 use Rattle.findings.specs.declared.Finding.{Finding}
+use Rattle.findings.specs.Hold.{holding}
 use Rattle.rules.specs.Lint.{Listing, listingSaid, listingOf, lintAnswerSaid, findingsOf}
-use Rattle.rules.specs.Lanes.{smallOf, numbersOf, flat, firstFindings, lintNumbersOf, headsAfter, numbersAfter}
+use Rattle.rules.specs.Lanes.{smallOf, numbersOf, flat, lintNumbersOf, headsAfter, numbersAfter}
+use Rattle.rules.specs.Gathering.{firstFindings}
 use Rattle.rules.specs.declared.LintRecords.{LintRecords}
 use Rattle.rules.specs.declared.LintAnswer.{LintAnswer}
 use Rattle.rules.specs.declared.LintAnswer.the-variants as answer
@@ -36,15 +38,16 @@ module _ (s : List ℕ) {r : LintAnswer} (says : lintAnswerSaid r ≡ lintNumber
 
 module _ (s out : List ℕ) (l : LintRecords) (e : listingSaid l ≡ listingOf s) where
   few : l .count ≤ 15
+  unfolding holding
   few = subst (λ (t : Listing). t .count ≤ 15) (sym e) (at-most-fifteen s)
 
   answers : (w : WriteAnswer) → writeSaid w ≡ fitted (l .count) (length out) → writeSaid w ≡ lintReportOf s (length out)
-  unfolding lintReportOf
+  unfolding lintReportOf holding
   answers w a = a ∙ ap (λ (t : Listing). fitted (t .count) (length out)) e
 
   leaves : {f : ℕ} {h n zs : List ℕ} → f ≡ flagsOf (l .identity) (l .timings) → h ≡ headsAfter s zeros zeros → n ≡ numbersAfter s zeros zeros
       → zs ≡ writtenOver (fitted (l .count) (length out)) f (firstFindings h n (l .count)) out → zs ≡ lintReportAfter s out
-  unfolding lintReportOf lintReportAfter headsAfter numbersAfter
+  unfolding lintReportOf lintReportAfter headsAfter numbersAfter holding
   leaves {f} {h} {n} p q r b =
       let k : l .count ≡ length (findingsOf s) = ap (λ (t : Listing). t .count) e in
       let g : f ≡ flagsFor (listingOf s .identity) (listingOf s .timings) = p ∙ ap (λ (t : Listing). flagsFor (t .identity) (t .timings)) e in

@@ -7,7 +7,7 @@ use native.Mathlib.Nat.{le-antisymm}
 use borrow.Author.Needs.{needs}
 use lib.ListN.{length}
 use Rattle.reading.specs.Lent.{laid}
-use Rattle.rules.specs.Lanes.{firstFindings}
+use Rattle.rules.specs.Gathering.{firstFindings}
 use Rattle.report.specs.Form.{headOf, bodyOf}
 use Rattle.report.proofs.Turns.{next-numbers, all-numbers, laid-again}
 use Rattle.report.proofs.put_numbers.Statement.{statement}

@@ -2,7 +2,7 @@
 use mathlib.Core.Path.{refl, ap, _∙_}
 use borrow.Author.Needs.{needs}
 use Rattle.rules.specs.Rules.{standardRate}
-use Rattle.rules.specs.Lanes.{noteAll}
+use Rattle.rules.specs.Gathering.{noteAll}
 use Rattle.rules.proofs.Gathered.{note-on, noteAll-lengths, still}
 use Rattle.rules.proofs.check_base_timings.Statement.{statement}
 use Rattle.rules.proofs.check_base_timings.Tie as tie

@@ -4,10 +4,12 @@ use mathlib.Core.Path.{_≡_, refl, _∙_, ap}
 use native.Mathlib.Omega.{arith}
 use mathlib.Core.List.{List}
 use lib.ListN.{length}
+use Rattle.reading.specs.Lent.{listed}
 use Rattle.findings.specs.Hold.{holding}
-use Rattle.findings.specs.Lent.{over, placesOf, listed}
+use Rattle.findings.specs.Lent.{placesOf}
 use Rattle.findings.specs.declared.Finding.{Finding}
 use Rattle.findings.specs.declared.Findings.{Findings}
+use Rattle.findings.proofs.Laws.{over}
 use Rattle.rules.specs.Lint.{ratedFindings, ratedSaid, ratedReplied, ratedOf}
 use Rattle.rules.specs.declared.RatedTimings.{RatedTimings}
 use Rattle.rules.specs.declared.RatedAnswer.{RatedAnswer}

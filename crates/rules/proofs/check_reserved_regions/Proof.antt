@@ -1,7 +1,7 @@
 -- `rules::check_reserved_regions` meets its contract: seven notes in a row, each of what `check_reserved_region` ensures. Assumes nothing.
 use mathlib.Core.Path.{refl}
 use borrow.Author.Needs.{needs}
-use Rattle.rules.specs.Lanes.{noteAll}
+use Rattle.rules.specs.Gathering.{noteAll}
 use Rattle.rules.proofs.Gathered.{note-on, noteAll-lengths, still}
 use Rattle.rules.proofs.check_reserved_regions.Statement.{statement}
 use Rattle.rules.proofs.check_reserved_regions.Tie as tie

@@ -4,15 +4,16 @@ use mathlib.Core.Path.{ap, _∙_}
 use borrow.Author.Needs.{needs}
 use lib.ListN.{replicate}
 use denote.Ref.{now}
+use Rattle.findings.specs.Hold.{holding}
 use Rattle.rules.specs.Lint.{findingsOf, Listing}
-use Rattle.rules.specs.Lanes.{Lanes, lanes, recordsOf, lanesHolding}
-use Rattle.rules.proofs.Gathered.{fresh, records-held}
+use Rattle.rules.specs.Gathering.{lanes, recordsOf}
+use Rattle.rules.proofs.Gathered.{lanesHolding, fresh, records-held}
 use Rattle.rules.proofs.Never.{at-most-fifteen}
 use Rattle.rules.proofs.lint_image.Statement.{statement}
 use Rattle.rules.proofs.lint_image.Tie as tie
 
 returns : tie.Need-returns
-unfolding lanesHolding
+unfolding lanesHolding holding
 returns c =
     let e = c .before .before .before .before .before .run-rules .ensures in
     let s = now (c .before .before .before .before .before .before .before .before .before .args .image) in

@@ -4,7 +4,7 @@ use native.Mathlib.Omega.{arith}
 use borrow.Author.Needs.{needs}
 use Rattle.rules.specs.Rules.{ratedRules, each}
 use Rattle.rules.specs.Lint.{ratedFindings}
-use Rattle.rules.specs.Lanes.{noteAll}
+use Rattle.rules.specs.Gathering.{noteAll}
 use Rattle.rules.proofs.Gathered.{note-on, whole}
 use Rattle.rules.proofs.Never.{at-most-five}
 use Rattle.rules.proofs.rated_findings.Statement.{statement}

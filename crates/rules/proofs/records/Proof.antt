@@ -9,7 +9,7 @@ use lib.ListN.{replicate}
 use borrow.Author.Needs.{needs}
 use Rattle.findings.specs.Hold.{blankFinding}
 use Rattle.findings.proofs.Laws.{kept-le}
-use Rattle.rules.specs.Lanes.{firstFindings}
+use Rattle.rules.specs.Gathering.{firstFindings}
 use Rattle.rules.proofs.Gathered.{record-on}
 use Rattle.rules.proofs.records.Statement.{statement}
 use Rattle.rules.proofs.records.Tie as tie

@@ -11,6 +11,7 @@ use Rattle.reading.specs.View.{view}
 use Rattle.reading.specs.Lent.{laid}
 use Rattle.reading.specs.Said.{Said}
 use Rattle.findings.specs.declared.Found.{Found}
+use Rattle.findings.specs.Hold.{holding}
 use Rattle.decoders.specs.declared.timing.Timings.{Timings}
 use Rattle.decoders.specs.Answers.{identitySaid, timingsSaid}
 use Rattle.decoders.specs.Identity.{identityOf}
@@ -18,8 +19,9 @@ use Rattle.decoders.specs.Timing.{timingsOf}
 use Rattle.rules.specs.Regions.{regionRules}
 use Rattle.rules.specs.Rules.{identityRules, timingRules, each}
 use Rattle.rules.specs.Lint.{onGiven, lintRules, lintAt, findingsOf, Listing, listingOf}
-use Rattle.rules.specs.Lanes.{Lanes, lanes, smallOf, numbersOf, flat, noteAll, lanesHolding}
-use Rattle.rules.proofs.Gathered.{note-on, row-on, noteAll-lengths, still, all-held}
+use Rattle.rules.specs.Lanes.{smallOf, numbersOf, flat}
+use Rattle.rules.specs.Gathering.{Lanes, lanes, noteAll}
+use Rattle.rules.proofs.Gathered.{lanesHolding, note-on, row-on, noteAll-lengths, still, all-held}
 use Rattle.rules.proofs.Never.{fits}
 use Rattle.rules.proofs.run_rules.Statement.{statement}
 use Rattle.rules.proofs.run_rules.Tie as tie
@@ -63,7 +65,7 @@ module _ (m : tie.At-match-came) {h n : List ℕ} {k : ℕ} {u : Said Timings} (
       → _≡_ {A = Listing} (record { identity = identitySaid (m .match .identity); timings = u; count = k }) (listingOf (image m))
       × (h ≡ laid (flat smallOf (findingsOf (image m))) (lent m .heads))
       × (n ≡ laid (flat numbersOf (findingsOf (image m))) (lent m .numbers))
-  unfolding lintAt identityOf timingsOf lanesHolding
+  unfolding lintAt identityOf timingsOf lanesHolding holding
   answered room =
       let held : lanes h n k ≡ lanesHolding (lent m .heads) (lent m .numbers) (lintAt (view (image m))) =
       all-held (lent m .heads) (lent m .numbers) (room .0) (room .1) (each lintRules (view (image m))) timed (fits (view (image m))) in (
