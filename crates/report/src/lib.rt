@@ -9,7 +9,7 @@ ghost use Rattle.rules.specs.Table.{rowOf, inTable, allIn, same};
 ghost use Rattle.rules.specs.Lanes.{firstFindings};
 ghost use Rattle.report.specs.Table.{Limited, inLimits};
 ghost use Rattle.report.specs.Form.{bigEndian, reportOf, restOf, numberIn, findingIn, findingsIn};
-ghost use Rattle.report.specs.Write.{writeSaid, writeOf, writtenOver, fitted, foundOf, lintReportOf, lintReportAfter, flagsOf};
+ghost use Rattle.report.specs.Write.{writeSaid, writeOf, writtenOver, fitted, foundOf, lintReportSaid, reportedOf, lintReportAfter, flagsOf};
 ghost use Rattle.report.specs.Read.{readSaid, readingSaid, readingOf, readOf, readAfter, readReplied, readRefused, gatheredOf, acceptedOf, Headed};
 use decoders::identity::IdentityAnswer;
 use decoders::timing::TimingsAnswer;
@@ -26,6 +26,13 @@ const ANY: u32 = 4294967295;
 pub enum WriteAnswer {
     Bytes(usize),
     Refused(Refusal),
+}
+
+// What linting into a report answers. A decoder's refusal stands for its record alone: the report is written all the same.
+pub struct LintReport {
+    pub identity: IdentityAnswer,
+    pub timings: TimingsAnswer,
+    pub written: WriteAnswer,
 }
 
 // A report's flags and how many findings it has, or why it is none.
@@ -80,8 +87,8 @@ fn write_fitting(flags: u8, found: Findings, out: &mut [u8]) -> WriteAnswer
 }
 
 // Lints an image and writes its report. What linting finds is always the form's, so want of room is the only refusal.
-pub fn lint_report(image: &[u8], out: &mut [u8]) -> WriteAnswer
-    ensures answer { λ r. ⌜ writeSaid r ≡ lintReportOf (now (image .entry)) (length (now (out .entry))) ⌝ }
+pub fn lint_report(image: &[u8], out: &mut [u8]) -> LintReport
+    ensures answer { λ r. ⌜ lintReportSaid r ≡ reportedOf (now (image .entry)) (length (now (out .entry))) ⌝ }
     ensures later { λ r. ⌜ now (out .exit) ≡ lintReportAfter (now (image .entry)) (now (out .entry)) ⌝ }
 {
     let mut heads = [0u8; 45];
@@ -91,10 +98,19 @@ pub fn lint_report(image: &[u8], out: &mut [u8]) -> WriteAnswer
             let identity = linted.identity;
             let timings = linted.timings;
             let flags = flags_of(identity, timings);
-            write_numbers(flags, &heads, &numbers, linted.count, out)
+            let written = write_numbers(flags, &heads, &numbers, linted.count, out);
+            LintReport {
+                identity,
+                timings,
+                written,
+            }
         }
         // Both lists have their forty-five places, so this is never reached.
-        LintAnswer::Refused(why) => WriteAnswer::Refused(why),
+        LintAnswer::Refused(why) => LintReport {
+            identity: IdentityAnswer::Refused(why),
+            timings: TimingsAnswer::Refused(why),
+            written: WriteAnswer::Refused(why),
+        },
     }
 }
 
