@@ -14,7 +14,8 @@ use Rattle.reading.proofs.Picked.{by-test}
 use Rattle.findings.specs.Hold.{holding}
 use Rattle.rules.specs.Table.{allIn}
 use Rattle.report.specs.Form.{restOf, findingsIn}
-use Rattle.report.specs.Read.{lengthIn, contentIn, contentOf, readingOf, readRefused, gatheredOf, acceptedOf, Headed}
+use Rattle.report.specs.Read.{lengthIn, contentIn, contentOf, readingOf}
+use Rattle.report.specs.Body.{readRefused, gatheredOf, acceptedOf, Headed}
 
 module _ (s : List ℕ) where
   pub refusing : (why : Refusal) → contentOf s ≡ refuses (told why) → readRefused why ≡ readingOf s

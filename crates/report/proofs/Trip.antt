@@ -70,10 +70,6 @@ read-report flags l r ok =
     passed s {rest = restOf (length l)} (record { told = sym w; whole = omega arith; some = omega arith; version = refl }) (ok .flagged) (ok .few) w
     ∙ rw (findings-back l r (ok .listed), ok .listed)
 
--- what stands behind a report is not looked at
-pub rest-unread : (flags : ℕ) (l : List Finding) → Reportable flags l → (r t : List ℕ) → contentOf (reportOf flags l ++ r) ≡ contentOf (reportOf flags l ++ t)
-rest-unread flags l ok r t = read-report flags l r ok ∙ sym (read-report flags l t ok)
-
 -- ---- tests that end in a value have been passed
 module _ {A : Type 0} where
   no-value : {P : Type 0} {why : Told} {a : A} → refuses why ≡ gives a → P

@@ -1,6 +1,5 @@
 -- What reading a report answers. Assumes nothing.
-use Prim.Native.Nat.{ℕ, _+_, _*_, _<_, _≤_}
-use mathlib.Core.Path.{_≡_}
+use Prim.Native.Nat.{ℕ, _+_, _*_}
 use mathlib.Core.List.{List, []}
 use lib.Dec.{ltb, eqb}
 use lib.ListN.{length, getD, drop}
@@ -15,8 +14,6 @@ use Rattle.report.specs.Form.{restOf, findingsIn}
 use Rattle.report.specs.declared.ReadAnswer.{ReadAnswer}
 use Rattle.report.specs.declared.ReadAnswer.the-variants as read
 use Rattle.report.specs.declared.Reading.{Reading}
-use Rattle.report.specs.declared.Gathered.{Gathered}
-use Rattle.reading.specs.declared.Refusal.{Refusal}
 
 -- what a report says: its flags and its findings
 pub record Content : Type 0 where
@@ -81,23 +78,3 @@ readOf s len = readReplied len (counted (contentOf s))
 -- the lent list afterwards
 unfoldable pub readAfter : List ℕ → List Finding → List Finding
 readAfter s list = listed 15 (contained (contentOf s)) list
-
--- a refusal with no findings, and a body that was gathered
-abbrev pub readRefused : Refusal → Read
-readRefused why = record { answer = refuses (told why); findings = holding [] }
-
-abbrev pub gatheredOf : List Finding → Gathered
-gatheredOf l = record { ok = allIn l; findings = holding l }
-
-abbrev pub acceptedOf : (flags : ℕ) → Gathered → Read
-acceptedOf flags g =
-    pick (g .ok)
-    (record { answer = gives (record { flags = flags; count = g .findings .count }); findings = g .findings })
-    (record { answer = refused 11 0 0; findings = holding [] })
-
--- what the tests before the flags have shown, where rest bytes follow the first two
-pub record Headed (s : List ℕ) (rest : ℕ) : Type 0 where
-  pub told : rest ≡ lengthIn s
-  pub whole : 2 + rest ≤ length s
-  pub some : 0 < rest
-  pub version : getD s 2 0 ≡ 1

@@ -10,7 +10,8 @@ ghost use Rattle.rules.specs.Lanes.{firstFindings};
 ghost use Rattle.report.specs.Table.{Limited, inLimits};
 ghost use Rattle.report.specs.Form.{bigEndian, reportOf, restOf, numberIn, findingIn, findingsIn};
 ghost use Rattle.report.specs.Write.{writeSaid, writeOf, writtenOver, fitted, foundOf, lintReportSaid, reportedOf, lintReportAfter, flagsOf};
-ghost use Rattle.report.specs.Read.{readSaid, readingSaid, readingOf, readOf, readAfter, readReplied, readRefused, gatheredOf, acceptedOf, Headed};
+ghost use Rattle.report.specs.Read.{readSaid, readingSaid, readingOf, readOf, readAfter, readReplied};
+ghost use Rattle.report.specs.Body.{readRefused, gatheredOf, acceptedOf, Headed};
 use decoders::identity::IdentityAnswer;
 use decoders::timing::TimingsAnswer;
 use findings::Finding;
@@ -105,11 +106,11 @@ pub fn lint_report(image: &[u8], out: &mut [u8]) -> LintReport
                 written,
             }
         }
-        // Both lists have their forty-five places, so this is never reached.
-        LintAnswer::Refused(why) => LintReport {
-            identity: IdentityAnswer::Refused(why),
-            timings: TimingsAnswer::Refused(why),
-            written: WriteAnswer::Refused(why),
+        // Both lists have their forty-five places, so this is never reached. With `why` in it the compiler would keep the records.
+        LintAnswer::Refused(_) => LintReport {
+            identity: IdentityAnswer::Refused(Refusal::ListTooShort),
+            timings: TimingsAnswer::Refused(Refusal::ListTooShort),
+            written: WriteAnswer::Refused(Refusal::BufferTooSmall),
         },
     }
 }

@@ -81,4 +81,4 @@ lint-report-spec =
       answers (a .image .now) (a .out .now) (g .0 .0) l (w .result) (w .ensures .0),
       leaves (a .image .now) (a .out .now) (g .0 .0) l (c .before .before .before .before .before .before .flags-of .ensures) (n .1) (n .2) (w .ensures .1),
     ))
-    (λ c. never (c .before .before .before .before .before .before .before .before .before .before .args .image .now) (c .before .before .before .before .before .lint-numbers .ensures .0) (c .before .why .given .1)))
+    (λ c. never (c .before .before .before .before .before .before .before .before .before .args .image .now) (c .before .before .before .before .lint-numbers .ensures .0) (c .enum-told .given .1)))
