@@ -14,7 +14,7 @@ use Rattle.reading.specs.Said.{Said, gives, refuses, refused, no}
 use Rattle.reading.proofs.Picked.{by-test, either}
 use Rattle.findings.specs.declared.Finding.{Finding}
 use Rattle.rules.specs.Table.{allIn}
-use Rattle.report.specs.Form.{restOf, findingIn, findingsIn}
+use Rattle.report.specs.Form.{findingSize, headSize, formVersion, restOf, findingIn, findingsIn}
 use Rattle.report.specs.Read.{Content, lengthIn, contentIn, contentOf, readingOf, readOf, readAfter}
 
 -- as many bytes as the first two announce
@@ -26,7 +26,7 @@ pub record Whole (s : List ℕ) : Type 0 where
 abbrev pub Agree : (k : ℕ) → (s t : List ℕ) → Type 0
 Agree k s t = (i : ℕ) → i < k → getD s i 0 ≡ getD t i 0
 
-finding-agrees : (s t : List ℕ) → Agree 14 s t → findingIn s ≡ findingIn t
+finding-agrees : (s t : List ℕ) → Agree findingSize s t → findingIn s ≡ findingIn t
 finding-agrees s t a =
     rw (
       a 0 (omega arith),
@@ -48,11 +48,11 @@ finding-agrees s t a =
 agree-drop : (m k : ℕ) (s t : List ℕ) → Agree (m + k) s t → Agree k (drop m s) (drop m t)
 agree-drop m k s t a i h = rw (getD-drop m s i 0, getD-drop m t i 0) (a (m + i) (omega arith))
 
-findings-agree : (n : ℕ) (s t : List ℕ) → Agree (14 * n) s t → findingsIn s n ≡ findingsIn t n
+findings-agree : (n : ℕ) (s t : List ℕ) → Agree (findingSize * n) s t → findingsIn s n ≡ findingsIn t n
 findings-agree zero s t a = refl
 findings-agree (suc n) s t a =
     ap₂ _∷_ (finding-agrees s t (λ i h. a i (omega arith)))
-    (findings-agree n (drop 14 s) (drop 14 t) (agree-drop 14 (14 * n) s t (λ i h. a i (omega arith))))
+    (findings-agree n (drop findingSize s) (drop findingSize t) (agree-drop findingSize (findingSize * n) s t (λ i h. a i (omega arith))))
 
 positive : (n : ℕ) → (n ≡ 0 → ⊥) → 0 < n
 positive zero h = absurd (h refl)
@@ -70,7 +70,7 @@ module _ (s t : List ℕ) (w : Whole s) (h : 2 + lengthIn s ≤ length t) (a : A
       pick (ltb 3 (getD u 3 0)) (refused 11 0 0)
       (pick (ltb 15 (getD u 4 0)) (refused 11 0 0)
       (pick (eqb (lengthIn s) (restOf (getD u 4 0)))
-      (pick (allIn (findingsIn (drop 5 u) (getD u 4 0))) (gives (contentIn u)) (refused 11 0 0))
+      (pick (allIn (findingsIn (drop headSize u) (getD u 4 0))) (gives (contentIn u)) (refused 11 0 0))
       (refused 11 0 0)))
 
   body-agrees : 3 ≤ lengthIn s → fromFlags s ≡ fromFlags t
@@ -79,7 +79,7 @@ module _ (s t : List ℕ) (w : Whole s) (h : 2 + lengthIn s ≤ length t) (a : A
       (ends (ltb 3 (getD t 3 0)) (λ _. refl) (λ _. ends (ltb 15 (getD t 4 0)) (λ _. refl) (λ _. ends (eqb (lengthIn s) (restOf (getD t 4 0)))
       (λ size.
       let z = eqb-true (lengthIn s) (restOf (getD t 4 0)) size in
-      rw (findings-agree (getD t 4 0) (drop 5 s) (drop 5 t) (agree-drop 5 (14 * getD t 4 0) s t (λ i q. a i (omega arith)))))
+      rw (findings-agree (getD t 4 0) (drop headSize s) (drop headSize t) (agree-drop headSize (findingSize * getD t 4 0) s t (λ i q. a i (omega arith)))))
       (λ _. refl))))
 
   -- the announced bytes are all that is looked at
@@ -91,7 +91,7 @@ module _ (s t : List ℕ) (w : Whole s) (h : 2 + lengthIn s ≤ length t) (a : A
       (ends (eqb (lengthIn s) 0) (λ _. refl) (λ some.
       let k = positive (lengthIn s) (eqb-false (lengthIn s) 0 some) in
       rw (a 2 (omega arith))
-      (ends (eqb (getD t 2 0) 1) (λ _. ends (ltb (lengthIn s) 3) (λ _. refl) (λ three. body-agrees (ltb-false (lengthIn s) 3 three))) (λ _. refl))))
+      (ends (eqb (getD t 2 0) formVersion) (λ _. ends (ltb (lengthIn s) 3) (λ _. refl) (λ three. body-agrees (ltb-false (lengthIn s) 3 three))) (λ _. refl))))
 
 -- ---- refusal 9
 abbrev numberOf : Said Content → ℕ
@@ -109,12 +109,12 @@ not-cut s w =
     let eleven : NotCut (refused 11 0 0) = λ z. omega arith in
     rw (le-ltb (length s) 2 (w .told), le-ltb (length s) (2 + lengthIn s) (w .all))
     (either NotCut (eqb (lengthIn s) 0) eleven
-    (either NotCut (eqb (getD s 2 0) 1)
+    (either NotCut (eqb (getD s 2 0) formVersion)
     (either NotCut (ltb (lengthIn s) 3) eleven
     (either NotCut (ltb 3 (getD s 3 0)) eleven
     (either NotCut (ltb 15 (getD s 4 0)) eleven
     (either NotCut (eqb (lengthIn s) (restOf (getD s 4 0)))
-    (either NotCut (allIn (findingsIn (drop 5 s) (getD s 4 0))) value eleven)
+    (either NotCut (allIn (findingsIn (drop headSize s) (getD s 4 0))) value eleven)
     eleven))))
     ten))
 

@@ -10,6 +10,7 @@ use Rattle.reading.specs.declared.Refusal.{Refusal}
 use Rattle.findings.specs.declared.Finding.{Finding}
 use Rattle.findings.specs.Hold.{holding}
 use Rattle.rules.specs.Table.{allIn}
+use Rattle.report.specs.Form.{formVersion}
 use Rattle.report.specs.Read.{lengthIn, Read}
 use Rattle.report.specs.declared.Gathered.{Gathered}
 
@@ -31,4 +32,4 @@ pub record Headed (s : List ℕ) (rest : ℕ) : Type 0 where
   pub told : rest ≡ lengthIn s
   pub whole : 2 + rest ≤ length s
   pub some : 0 < rest
-  pub version : getD s 2 0 ≡ 1
+  pub version : getD s 2 0 ≡ formVersion

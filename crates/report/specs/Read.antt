@@ -10,7 +10,7 @@ use Rattle.findings.specs.declared.Findings.{Findings}
 use Rattle.findings.specs.Hold.{holding}
 use Rattle.findings.specs.Lent.{listed}
 use Rattle.rules.specs.Table.{allIn}
-use Rattle.report.specs.Form.{restOf, findingsIn}
+use Rattle.report.specs.Form.{headSize, formVersion, restOf, findingsIn}
 use Rattle.report.specs.declared.ReadAnswer.{ReadAnswer}
 use Rattle.report.specs.declared.ReadAnswer.the-variants as read
 use Rattle.report.specs.declared.Reading.{Reading}
@@ -25,7 +25,7 @@ abbrev pub lengthIn : List ℕ → ℕ
 lengthIn s = getD s 0 0 * 256 + getD s 1 0
 
 abbrev pub contentIn : List ℕ → Content
-contentIn s = record { flags = getD s 3 0; findings = findingsIn (drop 5 s) (getD s 4 0) }
+contentIn s = record { flags = getD s 3 0; findings = findingsIn (drop headSize s) (getD s 4 0) }
 
 -- 9, then length 0 (11), then 10, then the rest of 11; what stands after the report is not looked at
 unfoldable pub contentOf : List ℕ → Said Content
@@ -33,12 +33,12 @@ contentOf s =
     pick (ltb (length s) 2) (refused 9 0 0)
     (pick (ltb (length s) (2 + lengthIn s)) (refused 9 0 0)
     (pick (eqb (lengthIn s) 0) (refused 11 0 0)
-    (pick (eqb (getD s 2 0) 1)
+    (pick (eqb (getD s 2 0) formVersion)
     (pick (ltb (lengthIn s) 3) (refused 11 0 0)
     (pick (ltb 3 (getD s 3 0)) (refused 11 0 0)
     (pick (ltb 15 (getD s 4 0)) (refused 11 0 0)
     (pick (eqb (lengthIn s) (restOf (getD s 4 0)))
-    (pick (allIn (findingsIn (drop 5 s) (getD s 4 0))) (gives (contentIn s)) (refused 11 0 0))
+    (pick (allIn (findingsIn (drop headSize s) (getD s 4 0))) (gives (contentIn s)) (refused 11 0 0))
     (refused 11 0 0)))))
     (refused 10 0 0))))
 
