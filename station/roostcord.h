@@ -50,14 +50,14 @@ enum {
 };
 
 /* Lint an image into a report, version 1: the count of bytes written. Refused 8. A decoder's refusal is part of the report (its
- * flags), not of the answer. A report is: two bytes, high first, that count the bytes behind them; 1; flags (bit 0 identity
- * decoded, bit 1 timings decoded); the number of findings; and for each finding fourteen bytes: code, sub, and three 32-bit
- * numbers, high byte first. */
+ * flags), not of the answer; roostcord_identity and roostcord_timings tell it with its number and values. A report is: two bytes,
+ * high first, that count the bytes behind them; 1; flags (bit 0 identity decoded, bit 1 timings decoded); the number of findings;
+ * and for each finding fourteen bytes: code, sub, and three 32-bit numbers, high byte first. */
 int32_t roostcord_lint(const uint8_t *image, size_t image_len, uint8_t *report, size_t report_len);
 
-/* Read a report, version 1: 1 + 6 * n numbers for n findings, into a list of at least 91 places. Refused 4, 9, 10, 11. In order: the
- * flags; then for each finding its code, severity (0 error, 1 warning, 2 info), sub and three numbers. Bytes behind the report
- * are not looked at. */
+/* Read a report, version 1: 1 + 6 * n numbers for n findings, into a list of at least 91 places. Refused, in this order: 4, 9, 11 for
+ * length 0, 10, 11 for the rest. The numbers: the flags; then for each finding its code, severity (0 error, 1 warning, 2 info), sub
+ * and three numbers. Bytes behind the report are not looked at. */
 int32_t roostcord_report(const uint8_t *report, size_t report_len, uint32_t *out, size_t out_len);
 
 /* Identity: 18 numbers. Refused 4, 1, 2, 3. In order: SPD bytes; revision major, minor; byte 2; module code; hybrid; gigabits per

@@ -7,14 +7,14 @@ use lib.ListN.{length, length-append, replicate}
 use Rattle.reading.specs.Said.{gives}
 use Rattle.findings.specs.declared.Finding.{Finding}
 use Rattle.rules.specs.Table.{nonStandardDataRate, rowOf, inTable}
-use Rattle.report.specs.Form.{findingBytes, bodyOf, reportOf}
+use Rattle.report.specs.Form.{findingSize, headSize, findingBytes, bodyOf, reportOf}
 use Rattle.report.specs.Write.{writeOf}
 
-pub length-body : (l : List Finding) → length (bodyOf l) ≡ 14 * length l
+pub length-body : (l : List Finding) → length (bodyOf l) ≡ findingSize * length l
 length-body [] = refl
 length-body (f ∷ l) = omega (arith, length-body l, length-append (findingBytes f) (bodyOf l))
 
-pub length-report : (flags : ℕ) (l : List Finding) → length (reportOf flags l) ≡ 5 + 14 * length l
+pub length-report : (flags : ℕ) (l : List Finding) → length (reportOf flags l) ≡ headSize + findingSize * length l
 length-report flags l = omega (arith, length-body l)
 
 pub largest : (flags : ℕ) (l : List Finding) → length l ≤ 15 → length (reportOf flags l) ≤ 215

@@ -2,10 +2,12 @@
 use mathlib.Core.Path.{_≡_, refl, ap}
 use Rattle.reading.specs.Said.{Said}
 use Rattle.reading.proofs.Once.{unsaid, untold-told, once}
-use Rattle.report.specs.Write.{writeSaid}
+use Rattle.decoders.proofs.Once.{identity-once, timings-once}
+use Rattle.report.specs.Write.{writeSaid, Reported, lintReportSaid}
 use Rattle.report.specs.Read.{Counted, Read, readSaid, readingSaid}
 use Rattle.report.specs.declared.WriteAnswer.{WriteAnswer}
 use Rattle.report.specs.declared.WriteAnswer.the-variants as write
+use Rattle.report.specs.declared.LintReport.{LintReport}
 use Rattle.report.specs.declared.ReadAnswer.{ReadAnswer}
 use Rattle.report.specs.declared.ReadAnswer.the-variants as read
 use Rattle.report.specs.declared.Reading.{Reading}
@@ -16,6 +18,14 @@ write-back (write.Refused why) = ap write.Refused (untold-told why)
 
 pub write-once : (a b : WriteAnswer) → writeSaid a ≡ writeSaid b → a ≡ b
 write-once = once writeSaid (unsaid write.Bytes write.Refused) write-back
+
+-- both decoders' answers and the writer's, each by itself
+pub lint-report-once : (a b : LintReport) → lintReportSaid a ≡ lintReportSaid b → a ≡ b
+lint-report-once a b e =
+    let i = identity-once (a .identity) (b .identity) (ap (λ (r : Reported). r .identity) e) in
+    let t = timings-once (a .timings) (b .timings) (ap (λ (r : Reported). r .timings) e) in
+    let w = write-once (a .written) (b .written) (ap (λ (r : Reported). r .written) e) in
+    λ k. record { identity = i k; timings = t k; written = w k }
 
 -- the answer that what was said stands for
 abbrev back : Said Counted → ReadAnswer

@@ -17,7 +17,7 @@ use Rattle.findings.specs.declared.Severity.{Severity}
 use Rattle.findings.specs.declared.Severity.the-variants.{Error, Warning, Info}
 use Rattle.findings.specs.declared.Finding.{Finding}
 use Rattle.rules.specs.Table.{same, inTable, allIn}
-use Rattle.report.specs.Form.{findingBytes, bodyOf, headOf, reportOf, restOf, severityFor, findingIn, findingsIn}
+use Rattle.report.specs.Form.{findingSize, headSize, formVersion, findingBytes, bodyOf, headOf, reportOf, restOf, severityFor, findingIn, findingsIn}
 use Rattle.report.specs.Read.{Content, lengthIn, contentIn, contentOf}
 use Rattle.report.specs.Write.{writeOf, writtenOver}
 use Rattle.report.proofs.Form.{length-body, length-report}
@@ -66,13 +66,9 @@ pub read-report : (flags : ℕ) (l : List Finding) (r : List ℕ) → Reportable
 read-report flags l r ok =
     let s = reportOf flags l ++ r in
     let w : lengthIn s ≡ restOf (length l) = omega arith in
-    let n : length s ≡ 5 + (14 * length l + length r) = omega (arith, length-append (bodyOf l) r, length-body l) in
+    let n : length s ≡ headSize + (findingSize * length l + length r) = omega (arith, length-append (bodyOf l) r, length-body l) in
     passed s {rest = restOf (length l)} (record { told = sym w; whole = omega arith; some = omega arith; version = refl }) (ok .flagged) (ok .few) w
     ∙ rw (findings-back l r (ok .listed), ok .listed)
-
--- what stands behind a report is not looked at
-pub rest-unread : (flags : ℕ) (l : List Finding) → Reportable flags l → (r t : List ℕ) → contentOf (reportOf flags l ++ r) ≡ contentOf (reportOf flags l ++ t)
-rest-unread flags l ok r t = read-report flags l r ok ∙ sym (read-report flags l t ok)
 
 -- ---- tests that end in a value have been passed
 module _ {A : Type 0} where
@@ -105,9 +101,9 @@ written-reads flags l room out e = rw e (read-report flags l (drop (length (repo
 -- ---- what is read is a report
 record Passed (s : List ℕ) : Type 0 where
   pub whole : 2 + lengthIn s ≤ length s
-  pub version : getD s 2 0 ≡ 1
+  pub version : getD s 2 0 ≡ formVersion
   pub size : lengthIn s ≡ restOf (getD s 4 0)
-  pub form : Reportable (getD s 3 0) (findingsIn (drop 5 s) (getD s 4 0))
+  pub form : Reportable (getD s 3 0) (findingsIn (drop headSize s) (getD s 4 0))
 
 -- the tests of `contentOf` that a report has passed
 read-passed : (s : List ℕ) {c : Content} → contentOf s ≡ gives c → Passed s × (contentIn s ≡ c)
@@ -116,17 +112,17 @@ read-passed s e =
     let t1 = unless (ltb (length s) 2) _ _ e in
     let t2 = unless (ltb (length s) (2 + lengthIn s)) _ _ (t1 .1) in
     let t3 = unless (eqb (lengthIn s) 0) _ _ (t2 .1) in
-    let t4 = provided (eqb (getD s 2 0) 1) _ _ (t3 .1) in
+    let t4 = provided (eqb (getD s 2 0) formVersion) _ _ (t3 .1) in
     let t5 = unless (ltb (lengthIn s) 3) _ _ (t4 .1) in
     let t6 = unless (ltb 3 (getD s 3 0)) _ _ (t5 .1) in
     let t7 = unless (ltb 15 (getD s 4 0)) _ _ (t6 .1) in
     let t8 = provided (eqb (lengthIn s) (restOf (getD s 4 0))) _ _ (t7 .1) in
-    let t9 = provided (allIn (findingsIn (drop 5 s) (getD s 4 0))) _ _ (t8 .1) in
-    let n = length-findings (getD s 4 0) (drop 5 s) in
+    let t9 = provided (allIn (findingsIn (drop headSize s) (getD s 4 0))) _ _ (t8 .1) in
+    let n = length-findings (getD s 4 0) (drop headSize s) in
     let q = t9 .1 in (
       record {
         whole = ltb-false (length s) (2 + lengthIn s) (t2 .0);
-        version = eqb-true (getD s 2 0) 1 (t4 .0);
+        version = eqb-true (getD s 2 0) formVersion (t4 .0);
         size = eqb-true (lengthIn s) (restOf (getD s 4 0)) (t8 .0);
         form = record { flagged = ltb-false 3 (getD s 3 0) (t6 .0); few = omega (arith, ltb-false 15 (getD s 4 0) (t7 .0)); listed = t9 .0 };
       },
@@ -155,38 +151,38 @@ digits a b c d ha hb hc hd = omega arith
 bytes-drop : (k : ℕ) (s : List ℕ) → AllBytes s → AllBytes (drop k s)
 bytes-drop k s h i = rw (getD-drop k s i 0) (h (k + i))
 
-finding-bytes : (t : List ℕ) → AllBytes t → 14 ≤ length t → findingBytes (findingIn t) ≡ take 14 t
+finding-bytes : (t : List ℕ) → AllBytes t → findingSize ≤ length t → findingBytes (findingIn t) ≡ take findingSize t
 finding-bytes t h n =
     let a = digits (getD t 2 0) (getD t 3 0) (getD t 4 0) (getD t 5 0) (h 2) (h 3) (h 4) (h 5) in
     let b = digits (getD t 6 0) (getD t 7 0) (getD t 8 0) (getD t 9 0) (h 6) (h 7) (h 8) (h 9) in
     let c = digits (getD t 10 0) (getD t 11 0) (getD t 12 0) (getD t 13 0) (h 10) (h 11) (h 12) (h 13) in
-    rw (a .0, a .1, a .2, a .3, b .0, b .1, b .2, b .3, c .0, c .1, c .2, c .3) (sym (take-each 14 t n))
+    rw (a .0, a .1, a .2, a .3, b .0, b .1, b .2, b .3, c .0, c .1, c .2, c .3) (sym (take-each findingSize t n))
 
-body-bytes : (n : ℕ) (t : List ℕ) → AllBytes t → 14 * n ≤ length t → bodyOf (findingsIn t n) ++ drop (14 * n) t ≡ t
+body-bytes : (n : ℕ) (t : List ℕ) → AllBytes t → findingSize * n ≤ length t → bodyOf (findingsIn t n) ++ drop (findingSize * n) t ≡ t
 body-bytes zero t h k = refl
 body-bytes (suc n) t h k =
-    let e : 14 * suc n ≡ 14 + 14 * n = omega arith in
-    let r : bodyOf (findingsIn (drop 14 t) n) ++ drop (14 * suc n) t ≡ drop 14 t =
-    rw (e, ← drop-drop (14 * n) 14 t) (body-bytes n (drop 14 t) (bytes-drop 14 t h) (omega (arith, length-drop 14 t))) in
-    append-assoc (findingBytes (findingIn t)) (bodyOf (findingsIn (drop 14 t) n)) (drop (14 * suc n) t)
+    let e : findingSize * suc n ≡ findingSize + findingSize * n = omega arith in
+    let r : bodyOf (findingsIn (drop findingSize t) n) ++ drop (findingSize * suc n) t ≡ drop findingSize t =
+    rw (e, ← drop-drop (findingSize * n) findingSize t) (body-bytes n (drop findingSize t) (bytes-drop findingSize t h) (omega (arith, length-drop findingSize t))) in
+    append-assoc (findingBytes (findingIn t)) (bodyOf (findingsIn (drop findingSize t) n)) (drop (findingSize * suc n) t)
     ∙ ap₂ _++_ (finding-bytes t h (omega arith)) r
-    ∙ take-append-drop 14 t
+    ∙ take-append-drop findingSize t
 
 whole-report : (s : List ℕ) → AllBytes s → Passed s
-    → s ≡ reportOf (getD s 3 0) (findingsIn (drop 5 s) (getD s 4 0)) ++ drop (length (reportOf (getD s 3 0) (findingsIn (drop 5 s) (getD s 4 0)))) s
+    → s ≡ reportOf (getD s 3 0) (findingsIn (drop headSize s) (getD s 4 0)) ++ drop (length (reportOf (getD s 3 0) (findingsIn (drop headSize s) (getD s 4 0)))) s
 whole-report s h p =
     let n = getD s 4 0 in
-    let l = findingsIn (drop 5 s) n in
+    let l = findingsIn (drop headSize s) n in
     let f = getD s 3 0 in
-    let len : length l ≡ n = length-findings n (drop 5 s) in
+    let len : length l ≡ n = length-findings n (drop headSize s) in
     let h0 : restOf n / 256 ≡ getD s 0 0 = omega (arith, h 0, h 1) in
     let h1 : restOf n % 256 ≡ getD s 1 0 = omega (arith, h 0, h 1) in
-    let head : headOf f (length l) ≡ take 5 s = rw (len, h0, h1, take-each 5 s (omega arith), p .version) in
-    let size : length (reportOf f l) ≡ 5 + 14 * n = omega (arith, length-report f l) in
-    let body : bodyOf l ++ drop (5 + 14 * n) s ≡ drop 5 s =
-    rw (← drop-drop (14 * n) 5 s) (body-bytes n (drop 5 s) (bytes-drop 5 s h) (omega (arith, length-drop 5 s))) in
-    let whole : reportOf f l ++ drop (5 + 14 * n) s ≡ s =
-    append-assoc (headOf f (length l)) (bodyOf l) (drop (5 + 14 * n) s) ∙ ap₂ _++_ head body ∙ take-append-drop 5 s in
+    let head : headOf f (length l) ≡ take headSize s = rw (len, h0, h1, take-each headSize s (omega arith), p .version) in
+    let size : length (reportOf f l) ≡ headSize + findingSize * n = omega (arith, length-report f l) in
+    let body : bodyOf l ++ drop (headSize + findingSize * n) s ≡ drop headSize s =
+    rw (← drop-drop (findingSize * n) headSize s) (body-bytes n (drop headSize s) (bytes-drop headSize s h) (omega (arith, length-drop headSize s))) in
+    let whole : reportOf f l ++ drop (headSize + findingSize * n) s ≡ s =
+    append-assoc (headOf f (length l)) (bodyOf l) (drop (headSize + findingSize * n) s) ∙ ap₂ _++_ head body ∙ take-append-drop headSize s in
     sym whole ∙ ap (λ (k : ℕ). reportOf f l ++ drop k s) (sym size)
 
 module _ (s : List ℕ) {c : Content} (e : contentOf s ≡ gives c) where

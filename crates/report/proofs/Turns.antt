@@ -19,7 +19,7 @@ use Rattle.rules.specs.Table.{finding, inTable, allIn}
 use Rattle.rules.specs.Gathering as rules
 use Rattle.rules.specs.Gathering.{firstFindings}
 use Rattle.rules.proofs.Gathered.{length-first}
-use Rattle.report.specs.Form.{findingBytes, bodyOf, headOf, reportOf, findingIn, findingsIn}
+use Rattle.report.specs.Form.{findingSize, headSize, findingBytes, bodyOf, headOf, reportOf, findingIn, findingsIn}
 use Rattle.report.proofs.Form.{length-body}
 
 -- what an array is taken to hold past its end, where no turn reads
@@ -41,22 +41,22 @@ module _ (n : ℕ) (xs : List Finding) (h : n ≤ length xs) where
 -- ---- gather: the findings of the first i places stand over blank places
 pub length-findings : (n : ℕ) (t : List ℕ) → length (findingsIn t n) ≡ n
 length-findings zero t = refl
-length-findings (suc n) t = ap suc (length-findings n (drop 14 t))
+length-findings (suc n) t = ap suc (length-findings n (drop findingSize t))
 
-findings-at : (n : ℕ) (t : List ℕ) (i : ℕ) → i < n → getD (findingsIn t n) i unread ≡ findingIn (drop (14 * i) t)
+findings-at : (n : ℕ) (t : List ℕ) (i : ℕ) → i < n → getD (findingsIn t n) i unread ≡ findingIn (drop (findingSize * i) t)
 findings-at zero t i h = absurd (not-suc-le-zero h)
 findings-at (suc n) t zero h = refl
 findings-at (suc n) t (suc i) h =
-    let e : 14 * suc i ≡ 14 + 14 * i = omega arith in
-    findings-at n (drop 14 t) i (le-of-suc-le-suc h) ∙ rw (drop-drop, e)
+    let e : findingSize * suc i ≡ findingSize + findingSize * i = omega arith in
+    findings-at n (drop findingSize t) i (le-of-suc-le-suc h) ∙ rw (drop-drop, e)
 
 module _ (s : List ℕ) (n : ℕ) (few : n ≤ 15) where
-  pub next-kept : (i : ℕ) → i < n → {f : Finding} → f ≡ findingIn (take (length s - (5 + 14 * i)) (drop (5 + 14 * i) s))
-      → set (over i (findingsIn (drop 5 s) n) blankItems) i f ≡ over (i + 1) (findingsIn (drop 5 s) n) blankItems
+  pub next-kept : (i : ℕ) → i < n → {f : Finding} → f ≡ findingIn (take (length s - (headSize + findingSize * i)) (drop (headSize + findingSize * i) s))
+      → set (over i (findingsIn (drop headSize s) n) blankItems) i f ≡ over (i + 1) (findingsIn (drop headSize s) n) blankItems
   next-kept i h {f} e =
-      let l = findingsIn (drop 5 s) n in
-      let p : f ≡ getD l i unread = e ∙ rw (take-all (length s - (5 + 14 * i)) (drop (5 + 14 * i) s) (omega (arith, length-drop (5 + 14 * i) s)), findings-at n (drop 5 s) i h, drop-drop) in
-      rw p (over-step unread l blankItems i (omega (arith, length-findings n (drop 5 s))) (omega arith))
+      let l = findingsIn (drop headSize s) n in
+      let p : f ≡ getD l i unread = e ∙ rw (take-all (length s - (headSize + findingSize * i)) (drop (headSize + findingSize * i) s) (omega (arith, length-drop (headSize + findingSize * i) s)), findings-at n (drop headSize s) i h, drop-drop) in
+      rw p (over-step unread l blankItems i (omega (arith, length-findings n (drop headSize s))) (omega arith))
 
 -- places that hold a list of at most fifteen
 pub all-kept : (l : List Finding) (n : ℕ) → length l ≡ n → n ≤ 15 → _≡_ {A = Findings} (record { items = over n l blankItems; count = n }) (holding l)
@@ -84,12 +84,12 @@ all-rows flags l d e p q = q ∙ rw (p, e) (laid-again (headOf flags _) (bodyOf 
 
 module _ (flags n : ℕ) (xs : List Finding) (h : n ≤ length xs) where
   pub next-put : (d : List ℕ) (i : ℕ) → i < n → {b o out : List ℕ} → b ≡ findingBytes (getD xs i unread) → o ≡ laid (headOf flags n ++ bodyOf (take i (take n xs))) d
-      → out ≡ take (5 + 14 * i) o ++ b ++ drop (5 + 14 * i + length b) o → out ≡ laid (headOf flags n ++ bodyOf (take (i + 1) (take n xs))) d
+      → out ≡ take (headSize + findingSize * i) o ++ b ++ drop (headSize + findingSize * i + length b) o → out ≡ laid (headOf flags n ++ bodyOf (take (i + 1) (take n xs))) d
   next-put d i k p q r =
       let l = take n xs in
       let m = length-take-le n xs h in
       let e : take (i + 1) l ≡ take i l ++ (getD xs i unread ∷ []) = rw (add-one, take-suc l i unread (omega arith), getD-take n xs i unread k) in
-      next-row flags n (take i l) (getD xs i unread) d (5 + 14 * i) (omega (arith, length-body (take i l), length-take-le i l (omega arith))) p q r
+      next-row flags n (take i l) (getD xs i unread) d (headSize + findingSize * i) (omega (arith, length-body (take i l), length-take-le i l (omega arith))) p q r
       ∙ ap (λ (t : List Finding). laid (headOf flags n ++ bodyOf t) d) (sym e)
 
   pub all-put : (d : List ℕ) (i : ℕ) → n ≤ i → {o out : List ℕ} → o ≡ laid (headOf flags n) d → out ≡ laid (headOf flags n ++ bodyOf (take i (take n xs))) o → out ≡ laid (reportOf flags (take n xs)) d
@@ -100,9 +100,9 @@ module _ (flags n : ℕ) (xs : List Finding) (h : n ≤ length xs) where
 -- ---- put_numbers: the same, where the findings stand as numbers
 module _ (flags n : ℕ) (hs ns : List ℕ) where
   pub next-numbers : (d : List ℕ) (i : ℕ) {b o out : List ℕ} → b ≡ findingBytes (rules.findingAt hs ns i) → o ≡ laid (headOf flags n ++ bodyOf (firstFindings hs ns i)) d
-      → out ≡ take (5 + 14 * i) o ++ b ++ drop (5 + 14 * i + length b) o → out ≡ laid (headOf flags n ++ bodyOf (firstFindings hs ns (i + 1))) d
+      → out ≡ take (headSize + findingSize * i) o ++ b ++ drop (headSize + findingSize * i + length b) o → out ≡ laid (headOf flags n ++ bodyOf (firstFindings hs ns (i + 1))) d
   next-numbers d i p q r =
-      next-row flags n (firstFindings hs ns i) (rules.findingAt hs ns i) d (5 + 14 * i) (omega (arith, length-body (firstFindings hs ns i), length-first hs ns i)) p q r
+      next-row flags n (firstFindings hs ns i) (rules.findingAt hs ns i) d (headSize + findingSize * i) (omega (arith, length-body (firstFindings hs ns i), length-first hs ns i)) p q r
       ∙ ap (λ (k : ℕ). laid (headOf flags n ++ bodyOf (firstFindings hs ns k)) d) (sym (add-one i))
 
   pub all-numbers : (d : List ℕ) (i : ℕ) → i ≡ n → {o out : List ℕ} → o ≡ laid (headOf flags n) d → out ≡ laid (headOf flags n ++ bodyOf (firstFindings hs ns i)) o → out ≡ laid (reportOf flags (firstFindings hs ns n)) d

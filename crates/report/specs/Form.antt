@@ -6,11 +6,21 @@ use Rattle.findings.specs.declared.Severity.{Severity}
 use Rattle.findings.specs.declared.Finding.{Finding}
 use Rattle.rules.specs.Table.{rowOf}
 
+-- the bytes of a finding, the bytes before the first finding, and the version
+abbrev pub findingSize : ℕ
+findingSize = 14
+
+abbrev pub headSize : ℕ
+headSize = 5
+
+abbrev pub formVersion : ℕ
+formVersion = 1
+
 -- a 32-bit number, big-endian, and the bytes behind it
 abbrev pub bigEndian : ℕ → List ℕ → List ℕ
 bigEndian n rest = n / 16777216 ∷ n / 65536 % 256 ∷ n / 256 % 256 ∷ n % 256 ∷ rest
 
--- code, sub, three numbers: fourteen bytes
+-- code, sub, three numbers
 abbrev pub findingBytes : Finding → List ℕ
 findingBytes f = f .code ∷ f .sub ∷ bigEndian (f .first) (bigEndian (f .second) (bigEndian (f .third) []))
 
@@ -20,11 +30,11 @@ bodyOf (f ∷ l) = findingBytes f ++ bodyOf l
 
 -- how many bytes follow the two of the length, with n findings
 abbrev pub restOf : ℕ → ℕ
-restOf n = 3 + 14 * n
+restOf n = 3 + findingSize * n
 
--- the length, version 1, the flags and the number of findings
+-- the length, the version, the flags and the number of findings
 abbrev pub headOf : (flags n : ℕ) → List ℕ
-headOf flags n = restOf n / 256 ∷ restOf n % 256 ∷ 1 ∷ flags ∷ n ∷ []
+headOf flags n = restOf n / 256 ∷ restOf n % 256 ∷ formVersion ∷ flags ∷ n ∷ []
 
 abbrev pub reportOf : (flags : ℕ) → List Finding → List ℕ
 reportOf flags l = headOf flags (length l) ++ bodyOf l
@@ -52,4 +62,4 @@ findingIn t =
 -- the n findings that fourteen bytes each are
 abbrev pub findingsIn : List ℕ → ℕ → List Finding
 findingsIn t zero = []
-findingsIn t (suc n) = findingIn t ∷ findingsIn (drop 14 t) n
+findingsIn t (suc n) = findingIn t ∷ findingsIn (drop findingSize t) n

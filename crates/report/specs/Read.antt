@@ -1,6 +1,5 @@
 -- What reading a report answers. Assumes nothing.
-use Prim.Native.Nat.{ℕ, _+_, _*_, _<_, _≤_}
-use mathlib.Core.Path.{_≡_}
+use Prim.Native.Nat.{ℕ, _+_, _*_}
 use mathlib.Core.List.{List, []}
 use lib.Dec.{ltb, eqb}
 use lib.ListN.{length, getD, drop}
@@ -11,12 +10,10 @@ use Rattle.findings.specs.declared.Finding.{Finding}
 use Rattle.findings.specs.declared.Findings.{Findings}
 use Rattle.findings.specs.Hold.{holding}
 use Rattle.rules.specs.Table.{allIn}
-use Rattle.report.specs.Form.{restOf, findingsIn}
+use Rattle.report.specs.Form.{headSize, formVersion, restOf, findingsIn}
 use Rattle.report.specs.declared.ReadAnswer.{ReadAnswer}
 use Rattle.report.specs.declared.ReadAnswer.the-variants as read
 use Rattle.report.specs.declared.Reading.{Reading}
-use Rattle.report.specs.declared.Gathered.{Gathered}
-use Rattle.reading.specs.declared.Refusal.{Refusal}
 
 -- what a report says: its flags and its findings
 pub record Content : Type 0 where
@@ -28,7 +25,7 @@ abbrev pub lengthIn : List ℕ → ℕ
 lengthIn s = getD s 0 0 * 256 + getD s 1 0
 
 abbrev pub contentIn : List ℕ → Content
-contentIn s = record { flags = getD s 3 0; findings = findingsIn (drop 5 s) (getD s 4 0) }
+contentIn s = record { flags = getD s 3 0; findings = findingsIn (drop headSize s) (getD s 4 0) }
 
 -- 9, then length 0 (11), then 10, then the rest of 11; what stands after the report is not looked at
 unfoldable pub contentOf : List ℕ → Said Content
@@ -36,12 +33,12 @@ contentOf s =
     pick (ltb (length s) 2) (refused 9 0 0)
     (pick (ltb (length s) (2 + lengthIn s)) (refused 9 0 0)
     (pick (eqb (lengthIn s) 0) (refused 11 0 0)
-    (pick (eqb (getD s 2 0) 1)
+    (pick (eqb (getD s 2 0) formVersion)
     (pick (ltb (lengthIn s) 3) (refused 11 0 0)
     (pick (ltb 3 (getD s 3 0)) (refused 11 0 0)
     (pick (ltb 15 (getD s 4 0)) (refused 11 0 0)
     (pick (eqb (lengthIn s) (restOf (getD s 4 0)))
-    (pick (allIn (findingsIn (drop 5 s) (getD s 4 0))) (gives (contentIn s)) (refused 11 0 0))
+    (pick (allIn (findingsIn (drop headSize s) (getD s 4 0))) (gives (contentIn s)) (refused 11 0 0))
     (refused 11 0 0)))))
     (refused 10 0 0))))
 
@@ -81,23 +78,3 @@ readOf s len = readReplied len (counted (contentOf s))
 -- the lent list afterwards
 unfoldable pub readAfter : List ℕ → List Finding → List Finding
 readAfter s list = listed 15 (contained (contentOf s)) list
-
--- a refusal with no findings, and a body that was gathered
-abbrev pub readRefused : Refusal → Read
-readRefused why = record { answer = refuses (told why); findings = holding [] }
-
-abbrev pub gatheredOf : List Finding → Gathered
-gatheredOf l = record { ok = allIn l; findings = holding l }
-
-abbrev pub acceptedOf : (flags : ℕ) → Gathered → Read
-acceptedOf flags g =
-    pick (g .ok)
-    (record { answer = gives (record { flags = flags; count = g .findings .count }); findings = g .findings })
-    (record { answer = refused 11 0 0; findings = holding [] })
-
--- what the tests before the flags have shown, where rest bytes follow the first two
-pub record Headed (s : List ℕ) (rest : ℕ) : Type 0 where
-  pub told : rest ≡ lengthIn s
-  pub whole : 2 + rest ≤ length s
-  pub some : 0 < rest
-  pub version : getD s 2 0 ≡ 1

@@ -16,7 +16,10 @@ use Rattle.decoders.specs.Timing.{timingsOf}
 use Rattle.rules.specs.Table.{allIn}
 use Rattle.rules.specs.Lint.{findingsOf}
 use Rattle.report.specs.Form.{restOf, reportOf}
+use Rattle.decoders.specs.declared.identity.IdentityAndBase.{IdentityAndBase}
+use Rattle.decoders.specs.declared.timing.Timings.{Timings}
 use Rattle.report.specs.declared.WriteAnswer.{WriteAnswer}
+use Rattle.report.specs.declared.LintReport.{LintReport}
 use Rattle.report.specs.declared.WriteAnswer.the-variants as write
 
 abbrev pub writeSaid : WriteAnswer → Said ℕ
@@ -55,10 +58,23 @@ flagsFor identity timings = decoded identity + 2 * decoded timings
 abbrev pub flagsOf : IdentityAnswer → TimingsAnswer → ℕ
 flagsOf identity timings = flagsFor (identitySaid identity) (timingsSaid timings)
 
--- an image's report: want of room is the only refusal
+-- the bytes of an image's report: want of room is the only refusal
 unfoldable pub lintReportOf : List ℕ → (room : ℕ) → Said ℕ
 lintReportOf s room = fitted (length (findingsOf s)) room
 
+-- the whole answer: what both decoders say of the image, and of its report
+pub record Reported : Type 0 where
+  pub identity : Said IdentityAndBase
+  pub timings : Said Timings
+  pub written : Said ℕ
+
+abbrev pub reportedOf : List ℕ → (room : ℕ) → Reported
+reportedOf s room = record { identity = identityOf s; timings = timingsOf s; written = lintReportOf s room }
+
+abbrev pub lintReportSaid : LintReport → Reported
+lintReportSaid r = record { identity = identitySaid (r .identity); timings = timingsSaid (r .timings); written = writeSaid (r .written) }
+
+-- the buffer afterwards
 unfoldable pub lintReportAfter : List ℕ → List ℕ → List ℕ
 lintReportAfter s out =
     writtenOver (lintReportOf s (length out)) (flagsFor (identityOf s) (timingsOf s)) (findingsOf s) out

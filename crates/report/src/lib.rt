@@ -8,9 +8,10 @@ ghost use Rattle.reading.specs.Lent.{laid};
 ghost use Rattle.rules.specs.Table.{rowOf, inTable, allIn, same};
 ghost use Rattle.rules.specs.Gathering.{firstFindings};
 ghost use Rattle.report.specs.Table.{Limited, inLimits};
-ghost use Rattle.report.specs.Form.{bigEndian, reportOf, restOf, numberIn, findingIn, findingsIn};
-ghost use Rattle.report.specs.Write.{writeSaid, writeOf, writtenOver, fitted, foundOf, lintReportOf, lintReportAfter, flagsOf};
-ghost use Rattle.report.specs.Read.{readSaid, readingSaid, readingOf, readOf, readAfter, readReplied, readRefused, gatheredOf, acceptedOf, Headed};
+ghost use Rattle.report.specs.Form.{findingSize, headSize, bigEndian, reportOf, restOf, numberIn, findingIn, findingsIn};
+ghost use Rattle.report.specs.Write.{writeSaid, writeOf, writtenOver, fitted, foundOf, lintReportSaid, reportedOf, lintReportAfter, flagsOf};
+ghost use Rattle.report.specs.Read.{readSaid, readingSaid, readingOf, readOf, readAfter, readReplied};
+ghost use Rattle.report.specs.Body.{readRefused, gatheredOf, acceptedOf, Headed};
 use decoders::identity::IdentityAnswer;
 use decoders::timing::TimingsAnswer;
 use findings::Finding;
@@ -19,6 +20,14 @@ use findings::Severity;
 use reading::Refusal;
 use rules::LintAnswer;
 
+// The bytes of a finding.
+const FINDING_BYTES: usize = 14;
+
+// The bytes before the first finding.
+const HEAD_BYTES: usize = 5;
+
+const VERSION: u8 = 1;
+
 // The most that 32 bits hold: a number of any size.
 const ANY: u32 = 4294967295;
 
@@ -26,6 +35,13 @@ const ANY: u32 = 4294967295;
 pub enum WriteAnswer {
     Bytes(usize),
     Refused(Refusal),
+}
+
+// What linting into a report answers. A decoder's refusal stands for its record alone: the report is written all the same.
+pub struct LintReport {
+    pub identity: IdentityAnswer,
+    pub timings: TimingsAnswer,
+    pub written: WriteAnswer,
 }
 
 // A report's flags and how many findings it has, or why it is none.
@@ -71,7 +87,7 @@ fn write_fitting(flags: u8, found: Findings, out: &mut [u8]) -> WriteAnswer
     ensures answer { λ r. ⌜ writeSaid r ≡ fitted (found .count) (length (now (out .entry))) ⌝ }
     ensures later { λ r. ⌜ now (out .exit) ≡ writtenOver (fitted (found .count) (length (now (out .entry)))) flags (take (found .count) (found .items)) (now (out .entry)) ⌝ }
 {
-    let size = 3 + 14 * found.count + 2;
+    let size = 3 + FINDING_BYTES * found.count + 2;
     if out.len() < size {
         return WriteAnswer::Refused(Refusal::BufferTooSmall);
     }
@@ -80,8 +96,8 @@ fn write_fitting(flags: u8, found: Findings, out: &mut [u8]) -> WriteAnswer
 }
 
 // Lints an image and writes its report. What linting finds is always the form's, so want of room is the only refusal.
-pub fn lint_report(image: &[u8], out: &mut [u8]) -> WriteAnswer
-    ensures answer { λ r. ⌜ writeSaid r ≡ lintReportOf (now (image .entry)) (length (now (out .entry))) ⌝ }
+pub fn lint_report(image: &[u8], out: &mut [u8]) -> LintReport
+    ensures answer { λ r. ⌜ lintReportSaid r ≡ reportedOf (now (image .entry)) (length (now (out .entry))) ⌝ }
     ensures later { λ r. ⌜ now (out .exit) ≡ lintReportAfter (now (image .entry)) (now (out .entry)) ⌝ }
 {
     let mut heads = [0u8; 45];
@@ -91,10 +107,19 @@ pub fn lint_report(image: &[u8], out: &mut [u8]) -> WriteAnswer
             let identity = linted.identity;
             let timings = linted.timings;
             let flags = flags_of(identity, timings);
-            write_numbers(flags, &heads, &numbers, linted.count, out)
+            let written = write_numbers(flags, &heads, &numbers, linted.count, out);
+            LintReport {
+                identity,
+                timings,
+                written,
+            }
         }
-        // Both lists have their forty-five places, so this is never reached.
-        LintAnswer::Refused(why) => WriteAnswer::Refused(why),
+        // Both lists have their forty-five places, so this is never reached. With `why` in it the compiler would keep the records.
+        LintAnswer::Refused(_) => LintReport {
+            identity: IdentityAnswer::Refused(Refusal::ListTooShort),
+            timings: TimingsAnswer::Refused(Refusal::ListTooShort),
+            written: WriteAnswer::Refused(Refusal::BufferTooSmall),
+        },
     }
 }
 
@@ -104,7 +129,7 @@ fn write_numbers(flags: u8, heads: &[u8], numbers: &[u32], n: usize, out: &mut [
     ensures answer { λ r. ⌜ writeSaid r ≡ fitted n (length (now (out .entry))) ⌝ }
     ensures later { λ r. ⌜ now (out .exit) ≡ writtenOver (fitted n (length (now (out .entry)))) flags (firstFindings (now (heads .entry)) (now (numbers .entry)) n) (now (out .entry)) ⌝ }
 {
-    let size = 3 + 14 * n + 2;
+    let size = 3 + FINDING_BYTES * n + 2;
     if out.len() < size {
         return WriteAnswer::Refused(Refusal::BufferTooSmall);
     }
@@ -163,7 +188,7 @@ pub fn read_findings(bytes: &[u8]) -> Reading
     if rest == 0 {
         return refused(Refusal::ReportMalformed);
     }
-    if bytes[2] != 1 {
+    if bytes[2] != VERSION {
         return refused(Refusal::ReportVersion);
     }
     read_body(bytes, rest)
@@ -185,7 +210,7 @@ fn read_body(bytes: &[u8], rest: usize) -> Reading
     if 15 < count {
         return refused(Refusal::ReportMalformed);
     }
-    if rest != 3 + 14 * count {
+    if rest != 3 + FINDING_BYTES * count {
         return refused(Refusal::ReportMalformed);
     }
     accept(flags, gather(bytes, count))
@@ -226,15 +251,15 @@ fn accept(flags: u8, gathered: Gathered) -> Reading
     refused(Refusal::ReportMalformed)
 }
 
-// The findings in the places from byte 5 on, fourteen bytes each.
+// The findings that stand behind the head.
 fn gather(bytes: &[u8], count: usize) -> Gathered
-    requires { ⌜ (count ≤ 15) × (5 + 14 * count ≤ length (now bytes)) ⌝ }
-    ensures { λ r. ⌜ r ≡ gatheredOf (findingsIn (drop 5 (now (bytes .entry))) count) ⌝ }
+    requires { ⌜ (count ≤ 15) × (headSize + findingSize * count ≤ length (now bytes)) ⌝ }
+    ensures { λ r. ⌜ r ≡ gatheredOf (findingsIn (drop headSize (now (bytes .entry))) count) ⌝ }
 {
     let mut items = findings::blanks();
     let mut i: usize = 0;
     while i < count {
-        let at = 5 + 14 * i;
+        let at = HEAD_BYTES + FINDING_BYTES * i;
         items[i] = finding(&bytes[at..]);
         i += 1;
     }
@@ -247,7 +272,7 @@ fn gather(bytes: &[u8], count: usize) -> Gathered
 
 // The finding that the first fourteen bytes are.
 fn finding(t: &[u8]) -> Finding
-    requires { ⌜ 14 ≤ length (now t) ⌝ }
+    requires { ⌜ findingSize ≤ length (now t) ⌝ }
     ensures { λ r. ⌜ r ≡ findingIn (now (t .entry)) ⌝ }
 {
     let code = t[0];
@@ -387,14 +412,20 @@ fn put_all(flags: u8, found: Findings, out: &mut [u8])
     ensures { λ _. ⌜ now (out .exit) ≡ laid (reportOf flags (take (found .count) (found .items))) (now (out .entry)) ⌝ }
 {
     let n = found.count;
-    let rest = 3 + 14 * n;
-    let head = [(rest / 256) as u8, (rest % 256) as u8, 1, flags, n as u8];
+    let rest = 3 + FINDING_BYTES * n;
+    let head = [
+        (rest / 256) as u8,
+        (rest % 256) as u8,
+        VERSION,
+        flags,
+        n as u8,
+    ];
     copy_in(&head, out, 0);
     let mut i: usize = 0;
     while i < n {
         let f = found.items[i];
         let b = bytes_of(f.code, f.sub, f.first, f.second, f.third);
-        copy_in(&b, out, 5 + 14 * i);
+        copy_in(&b, out, HEAD_BYTES + FINDING_BYTES * i);
         i += 1;
     }
 }
@@ -404,8 +435,14 @@ fn put_numbers(flags: u8, heads: &[u8], numbers: &[u32], n: usize, out: &mut [u8
     requires { ⌜ (n ≤ 15) × (45 ≤ length (now heads)) × (45 ≤ length (now numbers)) × (restOf n + 2 ≤ length (now out)) ⌝ }
     ensures { λ _. ⌜ now (out .exit) ≡ laid (reportOf flags (firstFindings (now (heads .entry)) (now (numbers .entry)) n)) (now (out .entry)) ⌝ }
 {
-    let rest = 3 + 14 * n;
-    let head = [(rest / 256) as u8, (rest % 256) as u8, 1, flags, n as u8];
+    let rest = 3 + FINDING_BYTES * n;
+    let head = [
+        (rest / 256) as u8,
+        (rest % 256) as u8,
+        VERSION,
+        flags,
+        n as u8,
+    ];
     copy_in(&head, out, 0);
     let mut i: usize = 0;
     while i < n {
@@ -417,7 +454,7 @@ fn put_numbers(flags: u8, heads: &[u8], numbers: &[u32], n: usize, out: &mut [u8
             numbers[k + 1],
             numbers[k + 2],
         );
-        copy_in(&b, out, 5 + 14 * i);
+        copy_in(&b, out, HEAD_BYTES + FINDING_BYTES * i);
         i += 1;
     }
 }
@@ -435,7 +472,7 @@ fn copy_in(src: &[u8], dst: &mut [u8], at: usize)
 }
 
 // The fourteen bytes of a finding: code, sub and its three numbers.
-fn bytes_of(code: u8, sub: u8, a: u32, b: u32, c: u32) -> [u8; 14]
+fn bytes_of(code: u8, sub: u8, a: u32, b: u32, c: u32) -> [u8; FINDING_BYTES]
     ensures { λ r. ⌜ r ≡ code ∷ sub ∷ bigEndian «a» (bigEndian «b» (bigEndian «c» [])) ⌝ }
 {
     [

@@ -1,6 +1,8 @@
 // Runs what is only run of the report form and of the calls by value, and writes what came out: a report written and read back, every refusal
 // of the writer and the reader, the report table, the package rule on pairs that no image has, and regions at the edges of an image.
+use decoders::identity::IdentityAnswer;
 use decoders::identity::PackageType;
+use decoders::timing::TimingsAnswer;
 use findings::Finding;
 use findings::Findings;
 use findings::Found;
@@ -157,7 +159,9 @@ fn image_report(image: &[u8]) {
     let mut once = [255u8; 216];
     let mut twice = [255u8; 216];
     text(b"lint_report:");
-    wrote(report::lint_report(image, &mut once));
+    let reported = report::lint_report(image, &mut once);
+    let written = reported.written;
+    wrote(written);
     let linted = rules::lint_image(image);
     let identity = linted.identity;
     let timings = linted.timings;
@@ -181,10 +185,55 @@ fn image_short(image: &[u8]) {
     let mut out = [255u8; 158];
     let before = [255u8; 158];
     text(b"lint_report, a byte short:");
-    wrote(report::lint_report(image, &mut out));
+    let reported = report::lint_report(image, &mut out);
+    let written = reported.written;
+    wrote(written);
     text(b", unchanged");
     yes(same_bytes(&out, &before));
     text(b"\n");
+}
+
+fn identity_told(answer: IdentityAnswer) {
+    text(b" identity");
+    match answer {
+        IdentityAnswer::Decoded(_) => text(b" decoded"),
+        IdentityAnswer::Refused(why) => {
+            refused(why);
+            number(why.first());
+        }
+    }
+}
+
+fn timings_told(answer: TimingsAnswer) {
+    text(b", timings");
+    match answer {
+        TimingsAnswer::Decoded(_) => text(b" decoded"),
+        TimingsAnswer::Refused(why) => refused(why),
+    }
+}
+
+// Both decoders' answers beside the report's: a refusal stands for its record alone.
+fn image_told(label: &[u8], image: &[u8]) {
+    let mut out = [255u8; 216];
+    text(label);
+    let reported = report::lint_report(image, &mut out);
+    let identity = reported.identity;
+    let timings = reported.timings;
+    let written = reported.written;
+    identity_told(identity);
+    timings_told(timings);
+    text(b",");
+    wrote(written);
+    text(b"\n");
+}
+
+fn decoders_told() {
+    let mut image = sample();
+    image_told(b"lint_report, 512 bytes:", &image);
+    image_told(b"lint_report, 235 of them:", &image[0..235]);
+    image_told(b"lint_report, 93 of them:", &image[0..93]);
+    image[2] = 12;
+    image_told(b"lint_report, byte 2 is 12:", &image);
 }
 
 fn finding(code: u8, severity: Severity, sub: u8, first: u32, second: u32) -> Finding {
@@ -314,6 +363,10 @@ fn behind() {
     wrote(report::write_findings(3, pair(region()), &mut bytes));
     text(b"\n");
     read_case(b"read 40 bytes:", &bytes);
+    bytes[2] = 2;
+    read_case(b"read 40 bytes, version 2:", &bytes);
+    bytes[1] = 0;
+    read_case(b"read 40 bytes, version 2, length 0:", &bytes);
 }
 
 fn listed(label: &[u8], f: Finding) {
@@ -414,6 +467,7 @@ fn list_of(len: usize, image: &[u8]) {
 fn run(image: &[u8]) {
     image_report(image);
     image_short(image);
+    decoders_told();
     writer();
     let mut good = [0u8; 33];
     report::write_findings(3, pair(region()), &mut good);

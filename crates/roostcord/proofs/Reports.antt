@@ -1,4 +1,5 @@
--- The numbers of a report: one store more, one finding more, and what the reader's answer says of them. Assumes nothing.
+-- The numbers of a report: one store more, one finding more, what the reader's answer says of them, and bytes behind the report. Assumes
+-- nothing.
 use Prim.Native.Nat.{ℕ, suc, _+_, _*_, _<_, _≤_}
 use mathlib.Core.Path.{_≡_, refl, ap, sym, _∙_}
 use mathlib.Core.List.{List, [], _∷_, _++_, append-assoc, append-nil}
@@ -19,8 +20,10 @@ use Rattle.report.specs.Read.{Content, contentOf, Counted, counted, contained, 
 use Rattle.report.specs.declared.Reading.{Reading}
 use Rattle.report.specs.declared.ReadAnswer.the-variants as read
 use Rattle.report.proofs.Trip.{reportable-read}
+use Rattle.report.proofs.Behind.{Whole, behind}
 use Rattle.report.proofs.Turns.{laid-again}
-use Rattle.roostcord.specs.Numbers.{findingNumbers, reportNumbers, reportList}
+use Rattle.roostcord.specs.Word.{wordOf}
+use Rattle.roostcord.specs.Numbers.{findingNumbers, reportNumbers, reportList, listedIn, listAfter}
 
 -- ---- stores right behind the part that is laid make it longer
 store : (p d : List ℕ) (x : ℕ) → length p < length d → set (laid p d) (length p) x ≡ laid (p ++ (x ∷ [])) d
@@ -83,6 +86,15 @@ module _ (flags n : ℕ) (xs : List Finding) (h : n ≤ length xs) where
   all-listed d i k room q =
       let m = length-take-le n xs h in
       q ∙ rw (flagged d flags room, take-all i (take n xs) (omega arith)) (laid-again (flags ∷ []) (findingNumbers (take n xs)) d)
+
+-- ---- bytes behind a report, be it accepted or refused, change neither the answer nor what the list holds afterwards
+pub report-behind : (s t : List ℕ) → Whole s → reportList (s ++ t) ≡ reportList s
+unfolding reportList
+report-behind s t w = rw (behind s w t)
+
+pub word-behind : (s t : List ℕ) → Whole s → (out : List ℕ)
+    → (wordOf (listedIn 91 (reportList (s ++ t)) (length out)) ≡ wordOf (listedIn 91 (reportList s) (length out))) × (listAfter 91 (reportList (s ++ t)) out ≡ listAfter 91 (reportList s) out)
+word-behind s t w out = rw (report-behind s t w) (refl, refl)
 
 -- ---- what the reader's answer says of the definition
 abbrev pub contentBy : ℕ → Reading → Content

@@ -38,7 +38,9 @@ pub extern "C" fn roostcord_lint(image: &[u8], report: &mut [u8]) -> i32
     ensures answer { λ r. ⌜ r ≡ wordOf (lintReportOf (now (image .entry)) (length (now (report .entry)))) ⌝ }
     ensures later { λ r. ⌜ now (report .exit) ≡ lintReportAfter (now (image .entry)) (now (report .entry)) ⌝ }
 {
-    match report::lint_report(image, report) {
+    let reported = report::lint_report(image, report);
+    let written = reported.written;
+    match written {
         WriteAnswer::Bytes(n) => count_word(n),
         WriteAnswer::Refused(why) => refusal_word(why),
     }

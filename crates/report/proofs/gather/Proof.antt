@@ -8,13 +8,13 @@ use Rattle.findings.specs.declared.Findings.{Findings}
 use Rattle.findings.specs.Hold.{blankItems, holding}
 use Rattle.findings.proofs.Laws.{over, list-held}
 use Rattle.rules.specs.Table.{allIn}
-use Rattle.report.specs.Form.{findingsIn}
+use Rattle.report.specs.Form.{headSize, findingsIn}
 use Rattle.report.proofs.Turns.{length-findings, next-kept, all-kept}
 use Rattle.report.proofs.gather.Statement.{statement}
 use Rattle.report.proofs.gather.Tie as tie
 
 abbrev Inv-loop : tie.InvT-loop
-Inv-loop bytes count items₀ i₀ items i = (i ≤ count) × (items ≡ over i (findingsIn (drop 5 bytes) count) blankItems)
+Inv-loop bytes count items₀ i₀ items i = (i ≤ count) × (items ≡ over i (findingsIn (drop headSize bytes) count) blankItems)
 
 abbrev μ-loop : tie.MeasureT-loop
 μ-loop bytes count items₀ i₀ items i = count - i
@@ -45,7 +45,7 @@ gather-spec =
     (λ c.
     let l = c .before .before in
     let a = l .before .before .before .args in
-    let L = findingsIn (drop 5 (a .bytes .now)) (a .count) in
+    let L = findingsIn (drop headSize (a .bytes .now)) (a .count) in
     let n : l .loop .i ≡ a .count = omega arith in
-    let e : record { items = l .loop .items; count = a .count } ≡ holding L = rw (l .loop .inv .1, n) (all-kept L (a .count) (length-findings (a .count) (drop 5 (a .bytes .now))) (omega arith)) in
+    let e : record { items = l .loop .items; count = a .count } ≡ holding L = rw (l .loop .inv .1, n) (all-kept L (a .count) (length-findings (a .count) (drop headSize (a .bytes .now))) (omega arith)) in
     λ i. record { ok = (c .all-in .ensures ∙ ap (λ (f : Findings). allIn (take (f .count) (f .items))) e ∙ ap allIn (list-held L)) i; findings = e i }))

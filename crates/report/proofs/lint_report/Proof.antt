@@ -1,4 +1,5 @@
--- `report::lint_report` meets its contract: two lists of forty-five zeros have room, so the flags and the findings are those of the image.
+-- `report::lint_report` meets its contract: two lists of forty-five zeros have room, so the decoders' answers, the flags and the findings are
+-- those of the image.
 -- Assumes nothing.
 use Prim.Native.Nat.{ℕ, _≤_}
 use mathlib.Core.Path.{_≡_, ap, sym, subst, _∙_}
@@ -18,7 +19,7 @@ use Rattle.rules.specs.declared.LintAnswer.{LintAnswer}
 use Rattle.rules.specs.declared.LintAnswer.the-variants as answer
 use Rattle.rules.proofs.Gathered.{all-first}
 use Rattle.rules.proofs.Never.{at-most-fifteen}
-use Rattle.report.specs.Write.{writeSaid, fitted, writtenOver, flagsFor, flagsOf, lintReportOf, lintReportAfter}
+use Rattle.report.specs.Write.{writeSaid, fitted, writtenOver, flagsFor, flagsOf, lintReportOf, lintReportSaid, reportedOf, lintReportAfter}
 use Rattle.report.specs.declared.WriteAnswer.{WriteAnswer}
 use Rattle.report.proofs.lint_report.Statement.{statement}
 use Rattle.report.proofs.lint_report.Tie as tie
@@ -41,9 +42,12 @@ module _ (s out : List ℕ) (l : LintRecords) (e : listingSaid l ≡ listingOf s
   unfolding holding
   few = subst (λ (t : Listing). t .count ≤ 15) (sym e) (at-most-fifteen s)
 
-  answers : (w : WriteAnswer) → writeSaid w ≡ fitted (l .count) (length out) → writeSaid w ≡ lintReportOf s (length out)
+  answers : (w : WriteAnswer) → writeSaid w ≡ fitted (l .count) (length out)
+      → lintReportSaid (record { identity = l .identity; timings = l .timings; written = w }) ≡ reportedOf s (length out)
   unfolding lintReportOf holding
-  answers w a = a ∙ ap (λ (t : Listing). fitted (t .count) (length out)) e
+  answers w a =
+      let b : writeSaid w ≡ fitted (listingOf s .count) (length out) = a ∙ ap (λ (t : Listing). fitted (t .count) (length out)) e in
+      λ i. record { identity = e i .identity; timings = e i .timings; written = b i }
 
   leaves : {f : ℕ} {h n zs : List ℕ} → f ≡ flagsOf (l .identity) (l .timings) → h ≡ headsAfter s zeros zeros → n ≡ numbersAfter s zeros zeros
       → zs ≡ writtenOver (fitted (l .count) (length out)) f (firstFindings h n (l .count)) out → zs ≡ lintReportAfter s out
@@ -80,4 +84,4 @@ lint-report-spec =
       answers (a .image .now) (a .out .now) (g .0 .0) l (w .result) (w .ensures .0),
       leaves (a .image .now) (a .out .now) (g .0 .0) l (c .before .before .before .before .before .before .flags-of .ensures) (n .1) (n .2) (w .ensures .1),
     ))
-    (λ c. never (c .before .before .before .before .before .before .before .before .before .before .args .image .now) (c .before .before .before .before .before .lint-numbers .ensures .0) (c .before .why .given .1)))
+    (λ c. never (c .before .before .before .before .before .before .before .before .before .args .image .now) (c .before .before .before .before .lint-numbers .ensures .0) (c .enum-told .given .1)))

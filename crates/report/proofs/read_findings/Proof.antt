@@ -6,6 +6,7 @@ use borrow.Author.Needs.{needs}
 use borrow.Author.Tests.{lt-ltb, le-ltb, eq-eqb, ne-eqb}
 use lib.ListN.{length, getD}
 use Rattle.reading.specs.declared.Refusal.the-variants.{ReportCut, ReportVersion, ReportMalformed}
+use Rattle.report.specs.Form.{formVersion}
 use Rattle.report.specs.Read.{lengthIn, contentOf}
 use Rattle.report.proofs.Stated.{refusing}
 use Rattle.report.proofs.read_findings.Statement.{statement}
@@ -44,6 +45,6 @@ read-findings-spec =
     let b = c .before .before .before .before .before .before .before .before .before in
     let s = b .before .before .args .bytes .now in
     c .refused4 .ensures
-    ∙ refusing s ReportVersion (rw (le-ltb (length s) 2 (b .if1 .left), le-ltb (length s) (2 + lengthIn s) (omega arith), ne-eqb (lengthIn s) 0 (λ z. omega arith), ne-eqb (getD s 2 0) 1 (c .before .if4 .taken))))
+    ∙ refusing s ReportVersion (rw (le-ltb (length s) 2 (b .if1 .left), le-ltb (length s) (2 + lengthIn s) (omega arith), ne-eqb (lengthIn s) 0 (λ z. omega arith), ne-eqb (getD s 2 0) formVersion (c .before .if4 .taken))))
     (λ c κs. search needs)
     (λ c. c .read-body .ensures))

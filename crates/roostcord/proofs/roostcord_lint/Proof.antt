@@ -1,4 +1,4 @@
--- `roostcord::roostcord_lint` meets its contract: what `lint_report` answers, as a word; a report is at most 215 bytes, so its count fits.
+-- `roostcord::roostcord_lint` meets its contract: what `lint_report` answers of the bytes written, as a word; a report is at most 215 bytes, so its count fits.
 -- Assumes nothing.
 use Prim.Native.Nat.{ℕ, _+_, _<_}
 use mathlib.Core.Path.{_≡_, ap, _∙_, sym}
@@ -13,12 +13,16 @@ use Rattle.reading.specs.Said.{gives, refused}
 use Rattle.rules.specs.Lint.{findingsOf}
 use Rattle.rules.proofs.Never.{at-most-fifteen}
 use Rattle.report.specs.Form.{restOf}
-use Rattle.report.specs.Write.{writeSaid, lintReportOf}
+use Rattle.report.specs.Write.{writeSaid, lintReportOf, Reported}
 use Rattle.roostcord.specs.Word.{wordOf}
 use Rattle.roostcord.proofs.Words.{handed}
 use Rattle.roostcord.proofs.Answers.{found}
 use Rattle.roostcord.proofs.roostcord_lint.Statement.{statement}
 use Rattle.roostcord.proofs.roostcord_lint.Tie as tie
+
+-- of the whole answer the word tells the writer's part
+wrote : {a b : Reported} → a ≡ b → a .written ≡ b .written
+wrote e = ap (λ (t : Reported). t .written) e
 
 -- a size that is given is the report's
 size : (t : Bool) (m n : ℕ) → gives n ≡ pick t (refused 8 0 0) (gives m) → n ≡ m
@@ -41,18 +45,18 @@ roostcord-lint-spec =
     (λ c κs.
     let b = c .before .before .before .before .before in
     let a = b .before .before .before .before .args in
-    small (a .image .now) (length (a .report .now)) (c .before .n .given .0 .0) (found writeSaid (b .lint-report .ensures .0) (c .before .n .given .1)))
+    small (a .image .now) (length (a .report .now)) (c .before .written .given .0 .0) (found writeSaid (wrote (b .lint-report .ensures .0)) (c .before .written .given .1)))
     (λ c. search needs)
     (λ c κs. search needs)
     (λ c. search needs)
     (λ c.
     let m = c .before .before in
     let b = m .before .before .before .before in
-    let e = found writeSaid (b .lint-report .ensures .0) (m .n .given .1) in
+    let e = found writeSaid (wrote (b .lint-report .ensures .0)) (m .written .given .1) in
     (handed (c .count-word .ok) (c .count-word .ensures) ∙ sym (ap wordOf e), b .lint-report .ensures .1))
     (λ c. search needs)
     (λ c.
     let m = c .before .before in
     let b = m .before .before .before .before in
-    let e = found writeSaid (b .lint-report .ensures .0) (m .why .given .1) in
+    let e = found writeSaid (wrote (b .lint-report .ensures .0)) (m .written2 .given .1) in
     (handed (c .refusal-word .ok) (c .refusal-word .ensures) ∙ sym (ap wordOf e), b .lint-report .ensures .1)))
