@@ -10,6 +10,7 @@
 #include <stdlib.h>
 #include <string.h>
 #include <sys/mman.h>
+#include <sys/wait.h>
 #include <unistd.h>
 
 static long checks, faults;
@@ -315,7 +316,10 @@ static void pieces(const uint8_t *image, size_t n) {
 
 /*---- the feeding loop ----*/
 
-enum { RUNS = 12000, BURST = 16, PAST = IMAGE_MAX + 100, ANSWERS_OF = 16, SELDOM = 700 };
+enum { RUNS = 12000, BURST = 16, PAST = IMAGE_MAX + 100, ANSWERS_OF = 16, SELDOM = 700, LIMIT = 100000 };
+
+/* A loop that goes on for ever is ended by this answer, which no check accepts. */
+#define ENDLESS ((struct burst){BURST_FAILED, 0, 0, NULL, ELOOP})
 
 /* A reader of an image that misbehaves at random. What it never does is to tell another offset than the one at which its bytes stand. */
 struct unruly {
@@ -357,6 +361,7 @@ static struct burst wrong(struct unruly *u, size_t offset, size_t len, size_t ea
 
 static struct burst ask_unruly(void *context, size_t offset, size_t len) {
   struct unruly *u = context;
+  if (u->asks == LIMIT) return ENDLESS;
   size_t earlier = u->asked[pick(u, 4)], from = u->in_turn && u->at < offset ? u->at : offset;
   u->same = u->asks > 0 && u->asked[(u->asks - 1) % 4] == offset ? u->same + 1 : 1;
   u->asked[u->asks++ % 4] = offset;
@@ -454,6 +459,7 @@ static struct burst ask_scripted(void *context, size_t offset, size_t len) {
   struct scripted *s = context;
   (void)offset, (void)len;
   size_t step = s->asks++;
+  if (step == LIMIT) return ENDLESS;
   return s->script[step < s->steps ? step : s->steps - 1];
 }
 
@@ -533,42 +539,72 @@ static struct burst ask_lossy(void *context, size_t offset, size_t len) {
   return burst;
 }
 
-/* Files and streams: every length of bursts; no byte is read that was not asked for; a stream does not go back. */
-static void readers(const uint8_t *image, size_t n) {
+/* A stream labels its bursts itself, waits for all that was asked for, and does not go back: a burst that was lost stays lost. */
+static void streams(const uint8_t *image, size_t n) {
   struct source source;
   struct lossy lossy;
   const struct reader loses = {ask_lossy, NULL, &lossy, FEED_TRIES};
   uint8_t state[STATE];
-  struct feed_result fed;
-  FILE *file = tmpfile();
-  int fd = file ? fileno(file) : -1, reads[2];
-  if (fd < 0 || write(fd, image, n) != (ssize_t)n || pipe(reads) != 0) exit((perror("test"), 2));
-  CHECK(can_seek(fd) && !can_seek(reads[0]));
-  for (size_t len = 1; len <= 2 * IMAGE_MAX; len += len < 40 ? 1 : 299)
-    for (int stream = 0; stream < 2; stream++) {
-      struct reader reader = stream ? stream_reader(&source, fd) : file_reader(&source, fd);
-      roostcord_pieces_fresh(state, STATE);
-      lseek(fd, 0, SEEK_SET);
-      CHECK(reader.ask(&source, 0, len).len == (len < n ? len : n) && lseek(fd, 0, SEEK_CUR) == (off_t)(stream ? (len < n ? len : n) : 0));
-      reader = stream ? stream_reader(&source, fd) : file_reader(&source, fd);
-      lseek(fd, 0, SEEK_SET);
-      fed = feed_image(&reader, len, state);
-      CHECK(fed.end == FEED_WHOLE && fed.refusal == 0);
-      holds(state, image, n);
-    }
+  int ends[2];
+  if (pipe(ends) != 0) exit((perror("test"), 2));
+  CHECK(!can_seek(ends[0]));
+  pid_t child = fork();
+  if (child == 0) { /* a burst in two parts, and then the whole image */
+    int sent = write(ends[1], image, BURST / 3) == BURST / 3 && usleep(50000) == 0;
+    _exit(!(sent && write(ends[1], image, BURST - BURST / 3) == BURST - BURST / 3 && write(ends[1], image, n) == (ssize_t)n));
+  }
+  close(ends[1]);
+  struct reader reader = stream_reader(&source, ends[0]);
+  struct burst burst = reader.ask(&source, 0, BURST);
+  CHECK(child > 0 && burst.kind == BURST_BYTES && burst.offset == 0 && burst.len == BURST);
+  reader = stream_reader(&source, ends[0]);
+  burst = reader.ask(&source, n, BURST); /* asked for what comes later: what stands next, with its own offset */
+  CHECK(burst.kind == BURST_BYTES && burst.offset == 0 && burst.len == BURST && same(burst.bytes, image, BURST));
   roostcord_pieces_fresh(state, STATE);
-  lossy = (struct lossy){file_reader(&source, fd), 0};
-  CHECK(feed_image(&loses, BURST, state).end == FEED_WHOLE); /* a file is read again where a burst was lost */
+  CHECK(roostcord_pieces_feed(state, STATE, burst.offset, burst.bytes, burst.len) == BURST);
+  lossy = (struct lossy){reader, 0};
+  struct feed_result fed = feed_image(&loses, BURST, state);
+  CHECK(fed.end == FEED_GONE && fed.taken == 2 * BURST && fed.asked == 2 * BURST && fed.came == 3 * BURST && fed.refusal == 0);
+  holds(state, image, 2 * BURST);
+  int status = -1;
+  close(ends[0]);
+  CHECK(waitpid(child, &status, 0) == child && status == 0);
+}
+
+/* Bursts of one length from a file, at offsets and as a stream: no byte is read that was not asked for, and all of it comes. */
+static void file_bursts(int fd, int stream, const uint8_t *image, size_t n, size_t len) {
+  struct source source;
+  uint8_t state[STATE];
+  size_t least = len < n ? len : n;
+  struct reader reader = stream ? stream_reader(&source, fd) : file_reader(&source, fd);
+  lseek(fd, 0, SEEK_SET);
+  CHECK(reader.ask(&source, 0, len).len == least && lseek(fd, 0, SEEK_CUR) == (off_t)(stream ? least : 0));
+  reader = stream ? stream_reader(&source, fd) : file_reader(&source, fd);
+  lseek(fd, 0, SEEK_SET);
+  roostcord_pieces_fresh(state, STATE);
+  struct feed_result fed = feed_image(&reader, len, state);
+  CHECK(fed.end == FEED_WHOLE && fed.refusal == 0);
   holds(state, image, n);
-  CHECK(write(reads[1], image, n) == (ssize_t)n);
+}
+
+static void files(const uint8_t *image, size_t n) {
+  struct source source;
+  struct lossy lossy;
+  const struct reader loses = {ask_lossy, NULL, &lossy, FEED_TRIES};
+  uint8_t state[STATE];
+  FILE *file = tmpfile();
+  int fd = file ? fileno(file) : -1;
+  if (fd < 0 || write(fd, image, n) != (ssize_t)n) exit((perror("test"), 2));
+  CHECK(can_seek(fd));
+  for (size_t len = 1; len <= 2 * IMAGE_MAX; len += len < 40 ? 1 : 299)
+    for (int stream = 0; stream < 2; stream++) file_bursts(fd, stream, image, n, len);
   roostcord_pieces_fresh(state, STATE);
-  lossy = (struct lossy){stream_reader(&source, reads[0]), 0};
-  fed = feed_image(&loses, BURST, state);
-  CHECK(fed.end == FEED_GONE && fed.taken == BURST && fed.asked == BURST && fed.came == 2 * BURST);
-  holds(state, image, BURST);
-  fclose(file), close(reads[0]), close(reads[1]);
+  lossy = (struct lossy){file_reader(&source, fd), 0}; /* a file is read again where a burst was lost */
+  CHECK(feed_image(&loses, BURST, state).end == FEED_WHOLE && lossy.asks == (n + BURST - 1) / BURST + 2);
+  holds(state, image, n);
+  fclose(file);
   struct reader closed = file_reader(&source, -1);
-  fed = feed_image(&closed, BURST, state);
+  struct feed_result fed = feed_image(&closed, BURST, state);
   CHECK(fed.end == FEED_FAILED && fed.error == EBADF);
 }
 
@@ -598,7 +634,8 @@ int main(int argc, char **argv) {
     unruly_runs(image, n);
     burst_twice(image, n);
     giving_up(image);
-    readers(image, n);
+    streams(image, n);
+    files(image, n);
   }
   largest_report();
   printf("test: %ld checks, %ld faults\n", checks, faults);
