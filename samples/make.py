@@ -1,5 +1,5 @@
 #!/usr/bin/env python3
-"""Writes the two sample images beside this file. samples/README.md says what stands in them and why."""
+"""Writes the sample images and the log of bursts beside this file. samples/README.md says what stands in them and why."""
 import pathlib
 
 HERE = pathlib.Path(__file__).resolve().parent
@@ -38,6 +38,16 @@ def sound():
     return bytes(image)
 
 
+def xxd(offset, data):
+    """A line of xxd."""
+    groups = " ".join(data[k : k + 2].hex() for k in range(0, len(data), 2))
+    text = "".join(chr(byte) if 32 <= byte < 127 else "." for byte in data)
+    return f"{offset:08x}: {groups:39}  {text}\n"
+
+
 image = sound()
+arrived = [(offset, image[offset : offset + 16]) for offset in range(0, 512, 16)]
+arrived.insert(2, arrived[1])  # the burst of bytes 16 to 31 comes twice
 (HERE / "ddr5-4800.bin").write_bytes(image)
-(HERE / "ddr5-4800-burst-twice.bin").write_bytes((image[:32] + image[16:32] + image[32:])[:512])
+(HERE / "ddr5-4800-burst-twice.xxd").write_text("".join(xxd(offset, data) for offset, data in arrived))
+(HERE / "ddr5-4800-burst-twice.bin").write_bytes(b"".join(data for _, data in arrived)[:512])

@@ -77,8 +77,9 @@ int32_t roostcord_cas_latencies(const uint8_t *image, size_t image_len, uint16_t
 int32_t roostcord_clocks(const uint8_t *image, size_t image_len, uint32_t *out, size_t out_len);
 
 /* An image that arrives in pieces. The state is the first 512 bytes of `state`; the caller keeps it between calls and writes it by
- * these calls alone. A piece is taken exactly when its offset is the count of bytes taken and the total stays within 2,048; a piece
- * that is refused leaves the state as it was, so it can be read and sent again. */
+ * these calls alone. A piece goes with the offset at which its bytes were read. It is taken exactly when that is the count of bytes
+ * taken and the total stays within 2,048; a piece that is refused leaves the state as it was. After refusal 5, read again at the count
+ * that it carries: to send the same bytes with that offset would put them where they do not belong, and no library can see it. */
 
 /* A state that has taken nothing: 0. Refused 4. */
 int32_t roostcord_pieces_fresh(uint8_t *state, size_t state_len);

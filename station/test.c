@@ -1,12 +1,16 @@
 /* Tests of libroostcord.a from C: buffers that end at a guard page or are exactly as long as told, every buffer length, NULL with
- * length 0, refusals that write nothing, and a state in lent bytes against the whole image. Usage: test IMAGE... */
+ * length 0, refusals that write nothing, and a state in lent bytes against the whole image. And of the feeding loop: readers that
+ * repeat, lose, cut and mix bursts, against the whole image. Usage: test IMAGE... */
 #define _DEFAULT_SOURCE
-#include "roostcord.h"
+#include "feed.h"
+#include "log.h"
+#include "readers.h"
 
-#include <stdio.h>
+#include <errno.h>
 #include <stdlib.h>
 #include <string.h>
 #include <sys/mman.h>
+#include <sys/wait.h>
 #include <unistd.h>
 
 static long checks, faults;
@@ -144,90 +148,468 @@ static void every_report_length(const uint8_t *image, size_t n) {
   }
 }
 
-/* Lists of numbers of every length around what is asked: short ones are refused 4 and stay. */
+enum { IDENTITY_NEEDS = 236, TIMINGS_NEED = 94, DDR5 = 0x12 };
+
+/* The codes of identity in their order, fields 1 to 9: the byte, its lowest bit, how many bits, and which codes are accepted. */
+static const struct field {
+  size_t byte;
+  int low, bits;
+  uint32_t accepted;
+} fields[] = {{0, 4, 3, 0x1E}, {3, 0, 4, 0xDFE}, {4, 0, 5, 0x1FE}, {4, 5, 3, 0x3F}, {6, 5, 3, 0xF}, {7, 5, 3, 0xF}, {7, 0, 3, 0x7}, {235, 0, 3, 0xF}, {235, 5, 3, 0xF}};
+
+/* The answer about the identity of an image, with places enough. */
+static int32_t identity_of(const uint8_t *image, size_t n) {
+  if (n < IDENTITY_NEEDS) return -ROOSTCORD_TRUNCATED;
+  for (int32_t k = 0; k < 9; k++) {
+    int32_t code = image[fields[k].byte] >> fields[k].low & ((1 << fields[k].bits) - 1);
+    if (!(fields[k].accepted >> code & 1)) return -(ROOSTCORD_UNKNOWN_CODE + 256 * (k + 1) + (1 << 20) * code);
+    if (k == 0 && image[2] != DDR5) return -(ROOSTCORD_NOT_DDR5 + 256 * image[2]); /* the second check */
+  }
+  return ROOSTCORD_IDENTITY_COUNT;
+}
+
+static int32_t timings_of(const uint8_t *image, size_t n) {
+  (void)image;
+  return n < TIMINGS_NEED ? -ROOSTCORD_TRUNCATED : ROOSTCORD_TIMINGS_COUNT;
+}
+
+static int32_t clocks_of(const uint8_t *image, size_t n) {
+  if (n < TIMINGS_NEED) return -ROOSTCORD_TRUNCATED;
+  return image[20] == 0 && image[21] == 0 ? -ROOSTCORD_ZERO_CLOCK : ROOSTCORD_CLOCKS_COUNT;
+}
+
+/* The CAS latencies of an image, 20 + 2k for bit k of bytes 24 to 28, and their count. */
+static int32_t cas_latencies_of(const uint8_t *image, size_t n, uint16_t *list) {
+  int32_t count = 0;
+  if (n < TIMINGS_NEED) return -ROOSTCORD_TRUNCATED;
+  for (int k = 0; k < ROOSTCORD_CAS_LATENCIES_MAX; k++)
+    if (image[24 + k / 8] >> k % 8 & 1) list[count++] = (uint16_t)(20 + 2 * k);
+  return count;
+}
+
+/* The CAS latencies into a list of that length, at a guard page. */
+static void cas_list_length(const uint8_t *image, size_t n, size_t len) {
+  uint16_t *list = (uint16_t *)guarded(2 * len), wanted[ROOSTCORD_CAS_LATENCIES_MAX];
+  if (len) memset(list, 0xA5, 2 * len);
+  int32_t a = roostcord_cas_latencies(image, n, list, len);
+  CHECK(a == (len < ROOSTCORD_CAS_LATENCIES_MAX ? -ROOSTCORD_LIST_TOO_SHORT : cas_latencies_of(image, n, wanted)));
+  size_t put = a < 0 ? 0 : (size_t)a;
+  CHECK(same(list, wanted, 2 * put));
+  CHECK(len == 0 || all((uint8_t *)(list + put), 2 * (len - put), 0xA5));
+  release((uint8_t *)list, 2 * len);
+}
+
+/* Lists of numbers of every length around what is asked: short ones are refused 4 and stay; else the refusal is the one that the
+ * image's length and codes ask for. */
 static void every_list_length(const uint8_t *image, size_t n) {
-  for (size_t len = 0; len <= 45; len++) {
-    uint32_t *wide = (uint32_t *)guarded(4 * len);
-    uint16_t *narrow = (uint16_t *)guarded(2 * len);
-    int32_t (*const calls[])(const uint8_t *, size_t, uint32_t *, size_t) = {roostcord_identity, roostcord_timings, roostcord_clocks};
-    const int32_t counts[] = {ROOSTCORD_IDENTITY_COUNT, ROOSTCORD_TIMINGS_COUNT, ROOSTCORD_CLOCKS_COUNT};
+  static const struct {
+    int32_t (*call)(const uint8_t *, size_t, uint32_t *, size_t);
+    int32_t (*wanted)(const uint8_t *, size_t);
+    size_t count;
+  } calls[] = {{roostcord_identity, identity_of, ROOSTCORD_IDENTITY_COUNT},
+               {roostcord_timings, timings_of, ROOSTCORD_TIMINGS_COUNT},
+               {roostcord_clocks, clocks_of, ROOSTCORD_CLOCKS_COUNT}};
+  for (size_t len = 0; len <= ROOSTCORD_CAS_LATENCIES_MAX + 5; len++) {
+    uint32_t *list = (uint32_t *)guarded(4 * len);
     for (int k = 0; k < 3; k++) {
-      if (len) memset(wide, 0xA5, 4 * len);
-      int32_t a = calls[k](image, n, wide, len);
-      if (len < (size_t)counts[k]) CHECK(a == -ROOSTCORD_LIST_TOO_SHORT);
-      else CHECK(a == counts[k] || a < 0);
+      if (len) memset(list, 0xA5, 4 * len);
+      int32_t a = calls[k].call(image, n, list, len);
+      CHECK(a == (len < calls[k].count ? -ROOSTCORD_LIST_TOO_SHORT : calls[k].wanted(image, n)));
       size_t put = a < 0 ? 0 : (size_t)a;
-      CHECK(len == 0 || all((uint8_t *)(wide + put), 4 * (len - put), 0xA5));
+      CHECK(len == 0 || all((uint8_t *)(list + put), 4 * (len - put), 0xA5));
     }
-    if (len) memset(narrow, 0xA5, 2 * len);
-    int32_t a = roostcord_cas_latencies(image, n, narrow, len);
-    if (len < ROOSTCORD_CAS_LATENCIES_MAX) CHECK(a == -ROOSTCORD_LIST_TOO_SHORT);
-    else CHECK(a >= -255 && a <= 40);
-    size_t put = a < 0 ? 0 : (size_t)a;
-    for (size_t i = 0; i + 1 < put; i++) CHECK(narrow[i] < narrow[i + 1]);
-    CHECK(len == 0 || all((uint8_t *)(narrow + put), 2 * (len - put), 0xA5));
-    release((uint8_t *)wide, 4 * len);
-    release((uint8_t *)narrow, 2 * len);
+    cas_list_length(image, n, len);
+    release((uint8_t *)list, 4 * len);
   }
 }
+
+/* Every value of every byte that identity looks codes up in, and tCK 0: the exact refusal of each. */
+static void every_refusal(const uint8_t *sample, size_t n) {
+  static const size_t bytes[] = {0, 2, 3, 4, 6, 7, 235};
+  uint8_t image[ROOSTCORD_IMAGE_MAX];
+  uint32_t list[ROOSTCORD_TIMINGS_COUNT];
+  if (n < IDENTITY_NEEDS) return;
+  for (size_t k = 0; k < sizeof bytes / sizeof *bytes; k++) {
+    memcpy(image, sample, n);
+    for (int value = 0; value < 256; value++) {
+      image[bytes[k]] = (uint8_t)value;
+      CHECK(roostcord_identity(image, n, list, ROOSTCORD_TIMINGS_COUNT) == identity_of(image, n));
+    }
+  }
+  memcpy(image, sample, n);
+  image[20] = image[21] = 0;
+  CHECK(clocks_of(image, n) == -ROOSTCORD_ZERO_CLOCK);
+  every_list_length(image, n);
+}
+
+enum { LIST = 64, STATE = ROOSTCORD_STATE_SIZE, IMAGE_MAX = ROOSTCORD_IMAGE_MAX }; /* LIST: places enough for every list */
 
 /* Whether a state answers as the image does. */
 static void as_whole(const uint8_t *state, const uint8_t *image, size_t n) {
-  uint8_t a[256], b[256];
-  uint32_t x[64], y[64];
-  uint16_t p[64], q[64];
+  uint8_t a[ROOSTCORD_REPORT_MAX + 1], b[ROOSTCORD_REPORT_MAX + 1];
+  uint32_t x[LIST], y[LIST];
+  uint16_t p[LIST], q[LIST];
   memset(a, 1, sizeof a), memset(b, 1, sizeof b), memset(x, 1, sizeof x), memset(y, 1, sizeof y), memset(p, 1, sizeof p), memset(q, 1, sizeof q);
-  CHECK(roostcord_pieces_lint(state, 512, a, sizeof a) == roostcord_lint(image, n, b, sizeof b) && same(a, b, sizeof a));
-  CHECK(roostcord_pieces_identity(state, 512, x, 64) == roostcord_identity(image, n, y, 64) && same(x, y, sizeof x));
-  CHECK(roostcord_pieces_timings(state, 512, x, 64) == roostcord_timings(image, n, y, 64) && same(x, y, sizeof x));
-  CHECK(roostcord_pieces_clocks(state, 512, x, 64) == roostcord_clocks(image, n, y, 64) && same(x, y, sizeof x));
-  CHECK(roostcord_pieces_cas_latencies(state, 512, p, 64) == roostcord_cas_latencies(image, n, q, 64) && same(p, q, sizeof p));
+  CHECK(roostcord_pieces_taken(state, STATE) == (int32_t)n);
+  CHECK(roostcord_pieces_lint(state, STATE, a, sizeof a) == roostcord_lint(image, n, b, sizeof b) && same(a, b, sizeof a));
+  CHECK(roostcord_pieces_identity(state, STATE, x, LIST) == roostcord_identity(image, n, y, LIST) && same(x, y, sizeof x));
+  CHECK(roostcord_pieces_timings(state, STATE, x, LIST) == roostcord_timings(image, n, y, LIST) && same(x, y, sizeof x));
+  CHECK(roostcord_pieces_clocks(state, STATE, x, LIST) == roostcord_clocks(image, n, y, LIST) && same(x, y, sizeof x));
+  CHECK(roostcord_pieces_cas_latencies(state, STATE, p, LIST) == roostcord_cas_latencies(image, n, q, LIST) && same(p, q, sizeof p));
+}
+
+/* A state that is too short is refused and stays. */
+static void short_states(const uint8_t *image, size_t n) {
+  enum { SHORT = -ROOSTCORD_LIST_TOO_SHORT };
+  uint8_t none[1];
+  uint16_t narrow[LIST];
+  uint32_t list[LIST];
+  for (size_t len = 0; len < STATE; len += 73) {
+    uint8_t *state = guarded(len);
+    if (len) memset(state, 0xA5, len);
+    CHECK(roostcord_pieces_fresh(state, len) == SHORT && roostcord_pieces_taken(state, len) == SHORT);
+    CHECK(roostcord_pieces_feed(state, len, 0, image, n) == SHORT && roostcord_pieces_lint(state, len, none, 1) == SHORT);
+    CHECK(roostcord_pieces_identity(state, len, list, LIST) == SHORT && roostcord_pieces_timings(state, len, list, LIST) == SHORT);
+    CHECK(roostcord_pieces_clocks(state, len, list, LIST) == SHORT && roostcord_pieces_cas_latencies(state, len, narrow, LIST) == SHORT);
+    CHECK(len == 0 || all(state, len, 0xA5));
+    release(state, len);
+  }
+}
+
+/* Bursts of one length, each sent twice: the second is refused and changes nothing. */
+static void each_twice(uint8_t *state, const uint8_t *image, size_t n, size_t burst) {
+  uint8_t before[STATE];
+  CHECK(roostcord_pieces_fresh(state, STATE) == 0 && roostcord_pieces_taken(state, STATE) == 0);
+  for (size_t at = 0; at < n; at += burst) {
+    size_t len = n - at < burst ? n - at : burst;
+    CHECK(roostcord_pieces_feed(state, STATE, at, image + at, len) == (int32_t)(at + len));
+    memcpy(before, state, STATE);
+    int32_t again = roostcord_pieces_feed(state, STATE, at, image + at, len);
+    CHECK(ROOSTCORD_NUMBER(again) == ROOSTCORD_WRONG_OFFSET && ROOSTCORD_FIRST(again) == (int32_t)(at + len) && same(before, state, STATE));
+  }
+  CHECK(roostcord_pieces_taken(state, STATE) == (int32_t)n);
+  CHECK(roostcord_pieces_feed(state, STATE, n, NULL, 0) == (int32_t)n);
+  as_whole(state, image, n);
 }
 
 static void pieces(const uint8_t *image, size_t n) {
-  uint8_t *state = guarded(512), before[512], none[1];
-  uint32_t list[64];
-  for (size_t len = 0; len < 512; len += 73) { /* a state that is too short is refused and stays */
-    uint8_t *short_state = guarded(len);
-    if (len) memset(short_state, 0xA5, len);
-    CHECK(roostcord_pieces_fresh(short_state, len) == -4 && roostcord_pieces_taken(short_state, len) == -4);
-    CHECK(roostcord_pieces_feed(short_state, len, 0, image, n) == -4);
-    CHECK(roostcord_pieces_identity(short_state, len, list, 64) == -4 && roostcord_pieces_lint(short_state, len, none, 1) == -4);
-    CHECK(len == 0 || all(short_state, len, 0xA5));
-    release(short_state, len);
-  }
-  for (size_t burst = 1; burst <= 600; burst += burst < 20 ? 1 : 97) { /* each burst is sent twice; the second is refused */
-    CHECK(roostcord_pieces_fresh(state, 512) == 0 && roostcord_pieces_taken(state, 512) == 0);
-    for (size_t at = 0; at < n; at += burst) {
-      size_t len = n - at < burst ? n - at : burst;
-      CHECK(roostcord_pieces_feed(state, 512, at, image + at, len) == (int32_t)(at + len));
-      memcpy(before, state, 512);
-      int32_t again = roostcord_pieces_feed(state, 512, at, image + at, len);
-      CHECK(ROOSTCORD_NUMBER(again) == 5 && ROOSTCORD_FIRST(again) == (int32_t)(at + len) && same(before, state, 512));
-    }
-    CHECK(roostcord_pieces_taken(state, 512) == (int32_t)n);
-    CHECK(roostcord_pieces_feed(state, 512, n, NULL, 0) == (int32_t)n);
-    as_whole(state, image, n);
-  }
+  static uint8_t zeros[IMAGE_MAX + 1];
+  enum { WRONG = -ROOSTCORD_WRONG_OFFSET, LONG = -ROOSTCORD_TOO_LONG };
+  uint8_t *state = guarded(STATE);
+  short_states(image, n);
+  for (size_t burst = 1; burst <= 600; burst += burst < 20 ? 1 : 97) each_twice(state, image, n, burst);
   for (size_t cut = 0; cut <= n; cut++) { /* every cut into two */
-    roostcord_pieces_fresh(state, 512);
-    roostcord_pieces_feed(state, 512, 0, image, cut);
-    roostcord_pieces_feed(state, 512, cut, image + cut, n - cut);
+    roostcord_pieces_fresh(state, STATE);
+    roostcord_pieces_feed(state, STATE, 0, image, cut);
+    roostcord_pieces_feed(state, STATE, cut, image + cut, n - cut);
     as_whole(state, image, n);
   }
-  static uint8_t zeros[2049];
-  roostcord_pieces_fresh(state, 512);
-  CHECK(roostcord_pieces_feed(state, 512, 0, zeros, 2049) == -6);
-  CHECK(roostcord_pieces_feed(state, 512, 0, zeros, 2048) == 2048);
-  CHECK(roostcord_pieces_feed(state, 512, 2048, zeros, 0) == 2048 && roostcord_pieces_feed(state, 512, 2048, zeros, 1) == -6);
-  CHECK(roostcord_pieces_feed(state, 512, SIZE_MAX, zeros, 1) == -(5 + 256 * 2048));
-  memset(state, 0xFF, 512); /* a state that no feeding leads to has an answer as well */
-  CHECK(roostcord_pieces_taken(state, 512) == 4095 && roostcord_pieces_feed(state, 512, 4095, zeros, 0) == -6);
-  release(state, 512);
+  roostcord_pieces_fresh(state, STATE);
+  CHECK(roostcord_pieces_feed(state, STATE, 0, zeros, IMAGE_MAX + 1) == LONG);
+  CHECK(roostcord_pieces_feed(state, STATE, 0, zeros, IMAGE_MAX) == IMAGE_MAX);
+  CHECK(roostcord_pieces_feed(state, STATE, IMAGE_MAX, zeros, 0) == IMAGE_MAX && roostcord_pieces_feed(state, STATE, IMAGE_MAX, zeros, 1) == LONG);
+  CHECK(roostcord_pieces_feed(state, STATE, SIZE_MAX, zeros, 1) == WRONG - 256 * IMAGE_MAX);
+  memset(state, 0xFF, STATE); /* a state that no feeding leads to has an answer as well */
+  CHECK(roostcord_pieces_taken(state, STATE) == 4095 && roostcord_pieces_feed(state, STATE, 4095, zeros, 0) == LONG);
+  release(state, STATE);
+}
+
+/*---- the feeding loop ----*/
+
+enum { RUNS = 12000, BURST = 16, PAST = IMAGE_MAX + 100, ANSWERS_OF = 16, SELDOM = 700, LIMIT = 100000 };
+
+/* A loop that goes on for ever is ended by this answer, which no check accepts. */
+#define ENDLESS ((struct burst){BURST_FAILED, 0, 0, NULL, ELOOP})
+
+/* A reader of an image that misbehaves at random. What it never does is to tell another offset than the one at which its bytes stand. */
+struct unruly {
+  const uint8_t *image;
+  size_t n;
+  uint64_t random;
+  unsigned faulty;             /* of ANSWERS_OF answers, so many are faulty */
+  int in_turn;                 /* it goes back where it is asked to, but it does not skip what it has not handed on yet */
+  size_t at;                   /* up to where it has handed bytes on */
+  size_t asked[4], asks, same; /* the last questions, how many there were, and how many at one offset in a row */
+  struct burst last;           /* its last answer */
+};
+
+/* A number below that many, and not 0 of them. */
+static size_t pick(struct unruly *u, size_t below) {
+  u->random ^= u->random << 13, u->random ^= u->random >> 7, u->random ^= u->random << 17;
+  return (size_t)(u->random >> 20) % below;
+}
+
+static struct burst right(const struct unruly *u, size_t offset, size_t len) {
+  if (offset >= u->n) return (struct burst){BURST_END, u->n, 0, NULL, 0};
+  return (struct burst){BURST_BYTES, offset, len < u->n - offset ? len : u->n - offset, u->image + offset, 0};
+}
+
+static struct burst wrong(struct unruly *u, size_t offset, size_t len, size_t earlier) {
+  struct burst burst = right(u, offset, len);
+  if (pick(u, SELDOM) == 0) return (struct burst){BURST_FAILED, offset, 0, NULL, EIO};
+  switch (pick(u, 7)) {
+    case 0: return u->last;                                         /* the last answer again */
+    case 1: return right(u, pick(u, offset + 1), len);              /* an earlier burst */
+    case 2: return right(u, offset + 1 + pick(u, 2 * len), len);    /* a later one, or the end */
+    case 3: return right(u, earlier, len);                          /* late: the answer to an earlier question */
+    case 4: return right(u, u->n, len);                             /* the end, too early */
+    case 5: return (struct burst){BURST_BYTES, offset, 0, NULL, 0}; /* empty */
+    default: burst.len = burst.len ? 1 + pick(u, burst.len) : 0;    /* short */
+  }
+  return burst;
+}
+
+static struct burst ask_unruly(void *context, size_t offset, size_t len) {
+  struct unruly *u = context;
+  if (u->asks == LIMIT) return ENDLESS;
+  size_t earlier = u->asked[pick(u, 4)], from = u->in_turn && u->at < offset ? u->at : offset;
+  u->same = u->asks > 0 && u->asked[(u->asks - 1) % 4] == offset ? u->same + 1 : 1;
+  u->asked[u->asks++ % 4] = offset;
+  u->last = pick(u, ANSWERS_OF) < u->faulty ? wrong(u, from, len, earlier) : right(u, from, len);
+  if (u->last.offset == from) u->at = from + u->last.len;
+  return u->last;
+}
+
+static struct unruly unruly(const uint8_t *image, size_t n, uint64_t seed, unsigned faulty) {
+  struct unruly u = {.image = image, .n = n, .random = (seed + 1) * 0x9E3779B97F4A7C15u, .faulty = faulty};
+  u.last = right(&u, 0, BURST);
+  return u;
+}
+
+/* The loop as it was on the day of the forty certificates: bytes whose offset is refused are given the one that fits. It is kept to show
+ * that the runs below see that fault. Answers whether it came to the end of an image. */
+static int fed_by_arrival(const struct reader *reader, size_t len, uint8_t *state) {
+  size_t taken = 0;
+  for (size_t asks = 0; asks < 4 * PAST; asks++) {
+    struct burst burst = reader->ask(reader->context, taken, len);
+    if (burst.kind != BURST_BYTES) return burst.kind == BURST_END;
+    int32_t answer = roostcord_pieces_feed(state, STATE, burst.offset, burst.bytes, burst.len);
+    if (ROOSTCORD_REFUSED(answer) && ROOSTCORD_NUMBER(answer) == ROOSTCORD_WRONG_OFFSET)
+      answer = roostcord_pieces_feed(state, STATE, (size_t)ROOSTCORD_FIRST(answer), burst.bytes, burst.len);
+    if (ROOSTCORD_REFUSED(answer)) return 0;
+    taken = (size_t)answer;
+  }
+  return 0;
+}
+
+/* Whether a state has timings, and others than the image: what the forty certificates were signed on. */
+static int false_timings(const uint8_t *state, const uint8_t *image, size_t n) {
+  uint32_t x[ROOSTCORD_TIMINGS_COUNT], y[ROOSTCORD_TIMINGS_COUNT];
+  if (ROOSTCORD_REFUSED(roostcord_pieces_timings(state, STATE, x, ROOSTCORD_TIMINGS_COUNT))) return 0;
+  return roostcord_timings(image, n, y, ROOSTCORD_TIMINGS_COUNT) == ROOSTCORD_TIMINGS_COUNT && !same(x, y, sizeof x);
+}
+
+/* Whether a state is that of the first n bytes, in its bytes and in all of its answers. */
+static void holds(const uint8_t *state, const uint8_t *image, size_t n) {
+  uint8_t straight[STATE];
+  roostcord_pieces_fresh(straight, STATE);
+  CHECK(roostcord_pieces_feed(straight, STATE, 0, image, n) == (int32_t)n && same(straight, state, STATE));
+  as_whole(state, image, n);
+}
+
+/* One run of the loop with an unruly reader: how it ended, after the end was held to what the reader did. */
+static enum feed_end unruly_run(struct unruly u, size_t len) {
+  uint8_t state[STATE];
+  struct reader reader = {ask_unruly, NULL, &u, FEED_TRIES};
+  roostcord_pieces_fresh(state, STATE);
+  struct feed_result fed = feed_image(&reader, len, state);
+  holds(state, u.image, fed.taken);
+  CHECK(u.same <= FEED_TRIES && fed.asked == fed.taken && fed.came == u.last.offset);
+  if (fed.end == FEED_WHOLE) CHECK(fed.taken == u.n && u.last.kind == BURST_END);
+  else if (fed.end == FEED_REFUSED) CHECK(fed.refusal == -ROOSTCORD_TOO_LONG && u.n > IMAGE_MAX && u.last.offset + u.last.len > IMAGE_MAX);
+  else if (fed.end == FEED_GAVE_UP) CHECK(u.same == FEED_TRIES && (u.last.offset != fed.taken || u.last.len == 0));
+  else CHECK(fed.end == FEED_FAILED && fed.error == EIO && u.last.kind == BURST_FAILED);
+  return fed.end;
+}
+
+/* Many runs, each with its own share of faults, length and bursts; the old loop on the same ones. */
+static void unruly_runs(const uint8_t *sample, size_t n) {
+  static uint8_t image[PAST];
+  long ends[FEED_FAILED + 1] = {0}, old_ended = 0, old_false = 0;
+  struct unruly lot = unruly(sample, n, 2026, 0);
+  memcpy(image, sample, n);
+  for (size_t i = n; i < PAST; i++) image[i] = (uint8_t)pick(&lot, 256);
+  for (uint64_t run = 0; run < RUNS; run++) {
+    size_t length = pick(&lot, 2) ? n : pick(&lot, PAST + 1), len = pick(&lot, 2) ? BURST : 1 + pick(&lot, 4 * BURST);
+    struct unruly u = unruly(image, length, run, (unsigned)pick(&lot, ANSWERS_OF + 1));
+    u.in_turn = (int)pick(&lot, 2);
+    ends[unruly_run(u, len)]++;
+    uint8_t state[STATE];
+    struct reader reader = {ask_unruly, NULL, &u, FEED_TRIES};
+    roostcord_pieces_fresh(state, STATE);
+    int ended = fed_by_arrival(&reader, len, state);
+    old_ended += ended;
+    old_false += ended && false_timings(state, image, length);
+  }
+  printf("test: of %d unruly runs %ld ended whole, %ld were given up, %ld failed, %ld were too long; by arrival order %ld ended, %ld with false timings\n",
+         RUNS, ends[FEED_WHOLE], ends[FEED_GAVE_UP], ends[FEED_FAILED], ends[FEED_REFUSED], old_ended, old_false);
+  CHECK(ends[FEED_WHOLE] >= RUNS / 10 && ends[FEED_GAVE_UP] >= RUNS / 10 && ends[FEED_FAILED] >= RUNS / 100 && ends[FEED_REFUSED] >= 10);
+  CHECK(ends[FEED_GONE] == 0 && old_false >= RUNS / 10);
+}
+
+/* A reader with a script: its answers in their order, whatever is asked for, and the last one again and again. */
+struct scripted {
+  const struct burst *script;
+  size_t steps, asks, refusals;
+  size_t offset;  /* of the burst that was refused last */
+  int32_t answer; /* to it */
+};
+
+static struct burst ask_scripted(void *context, size_t offset, size_t len) {
+  struct scripted *s = context;
+  (void)offset, (void)len;
+  size_t step = s->asks++;
+  if (step == LIMIT) return ENDLESS;
+  return s->script[step < s->steps ? step : s->steps - 1];
+}
+
+static void refused_scripted(void *context, const struct burst *burst, int32_t answer) {
+  struct scripted *s = context;
+  s->refusals++, s->offset = burst->offset, s->answer = answer;
+}
+
+/* Feeds what a script has to a state that may have taken some. */
+static struct feed_result scripted_run(struct scripted *s, const struct burst *script, size_t steps, uint8_t *state) {
+  struct reader reader = {ask_scripted, refused_scripted, s, FEED_TRIES};
+  *s = (struct scripted){.script = script, .steps = steps};
+  return feed_image(&reader, BURST, state);
+}
+
+/* The day of the forty certificates: the burst of bytes 16 to 31 comes twice. The old loop signs the shifted image; the loop has the
+ * sound one. */
+static void burst_twice(const uint8_t *image, size_t n) {
+  struct burst script[IMAGE_MAX / BURST + 3];
+  uint8_t state[STATE], shifted[IMAGE_MAX + BURST];
+  struct scripted s;
+  size_t steps = 0, len;
+  for (size_t at = 0; at < n; at += BURST) {
+    len = n - at < BURST ? n - at : BURST;
+    script[steps++] = (struct burst){BURST_BYTES, at, len, image + at, 0};
+    if (at == BURST) script[steps] = script[steps - 1], steps++;
+  }
+  script[steps++] = (struct burst){BURST_END, n, 0, NULL, 0};
+  roostcord_pieces_fresh(state, STATE);
+  struct feed_result fed = scripted_run(&s, script, steps, state);
+  CHECK(fed.end == FEED_WHOLE && s.asks == steps && s.refusals == 1);
+  CHECK(s.offset == BURST && s.answer == -(ROOSTCORD_WRONG_OFFSET + 256 * 2 * BURST) && fed.refusal == s.answer);
+  holds(state, image, n);
+  struct reader reader = {ask_scripted, NULL, &s, FEED_TRIES};
+  s.asks = 0;
+  roostcord_pieces_fresh(state, STATE);
+  CHECK(fed_by_arrival(&reader, BURST, state) && false_timings(state, image, n));
+  memcpy(shifted, image, 2 * BURST);
+  memcpy(shifted + 2 * BURST, image + BURST, n - BURST);
+  holds(state, shifted, n + BURST);
+}
+
+/* Where the loop gives up, what starts its count anew, and that it goes on from what a state has. */
+static void giving_up(const uint8_t *image) {
+  const struct burst empty = {BURST_BYTES, 0, 0, NULL, 0}, first = {BURST_BYTES, 0, BURST, image, 0}, end = {BURST_END, BURST, 0, NULL, 0};
+  const struct burst failed = {BURST_FAILED, 0, 0, NULL, ENODEV};
+  struct burst script[2 * FEED_TRIES];
+  uint8_t state[STATE];
+  struct scripted s;
+  roostcord_pieces_fresh(state, STATE);
+  struct feed_result fed = scripted_run(&s, &empty, 1, state); /* an empty burst is no end */
+  CHECK(fed.end == FEED_GAVE_UP && s.asks == FEED_TRIES && s.refusals == 0 && fed.refusal == 0 && fed.taken == 0 && fed.asked == 0);
+  fed = scripted_run(&s, &end, 1, state); /* nor is an end at another offset than the count taken */
+  CHECK(fed.end == FEED_GAVE_UP && s.asks == FEED_TRIES && s.refusals == FEED_TRIES && fed.refusal == -ROOSTCORD_WRONG_OFFSET && fed.came == BURST);
+  for (size_t i = 0; i < 2 * FEED_TRIES; i++) script[i] = i == FEED_TRIES - 1 ? first : empty; /* progress starts the count anew */
+  script[2 * FEED_TRIES - 1] = end;
+  fed = scripted_run(&s, script, 2 * FEED_TRIES, state);
+  CHECK(fed.end == FEED_WHOLE && s.asks == 2 * FEED_TRIES && s.refusals == FEED_TRIES - 1);
+  holds(state, image, BURST);
+  fed = scripted_run(&s, &first, 1, state); /* a state that has that burst goes on behind it */
+  CHECK(fed.end == FEED_GAVE_UP && fed.asked == BURST && fed.taken == BURST && s.refusals == FEED_TRIES);
+  fed = scripted_run(&s, &failed, 1, state);
+  CHECK(fed.end == FEED_FAILED && fed.error == ENODEV && s.asks == 1);
+  holds(state, image, BURST);
+}
+
+/* A reader that loses its second burst, over another. */
+struct lossy {
+  struct reader reader;
+  size_t asks;
+};
+
+static struct burst ask_lossy(void *context, size_t offset, size_t len) {
+  struct lossy *lossy = context;
+  struct burst burst = lossy->reader.ask(lossy->reader.context, offset, len);
+  if (++lossy->asks == 2) burst.len = 0;
+  return burst;
+}
+
+/* A stream labels its bursts itself, waits for all that was asked for, and does not go back: a burst that was lost stays lost. */
+static void streams(const uint8_t *image, size_t n) {
+  struct source source;
+  struct lossy lossy;
+  const struct reader loses = {ask_lossy, NULL, &lossy, FEED_TRIES};
+  uint8_t state[STATE];
+  int ends[2];
+  if (pipe(ends) != 0) exit((perror("test"), 2));
+  CHECK(!can_seek(ends[0]));
+  pid_t child = fork();
+  if (child == 0) { /* a burst in two parts, and then the whole image */
+    int sent = write(ends[1], image, BURST / 3) == BURST / 3 && usleep(50000) == 0;
+    _exit(!(sent && write(ends[1], image, BURST - BURST / 3) == BURST - BURST / 3 && write(ends[1], image, n) == (ssize_t)n));
+  }
+  close(ends[1]);
+  struct reader reader = stream_reader(&source, ends[0]);
+  struct burst burst = reader.ask(&source, 0, BURST);
+  CHECK(child > 0 && burst.kind == BURST_BYTES && burst.offset == 0 && burst.len == BURST);
+  reader = stream_reader(&source, ends[0]);
+  burst = reader.ask(&source, n, BURST); /* asked for what comes later: what stands next, with its own offset */
+  CHECK(burst.kind == BURST_BYTES && burst.offset == 0 && burst.len == BURST && same(burst.bytes, image, BURST));
+  roostcord_pieces_fresh(state, STATE);
+  CHECK(roostcord_pieces_feed(state, STATE, burst.offset, burst.bytes, burst.len) == BURST);
+  lossy = (struct lossy){reader, 0};
+  struct feed_result fed = feed_image(&loses, BURST, state);
+  CHECK(fed.end == FEED_GONE && fed.taken == 2 * BURST && fed.asked == 2 * BURST && fed.came == 3 * BURST && fed.refusal == 0);
+  holds(state, image, 2 * BURST);
+  int status = -1;
+  close(ends[0]);
+  CHECK(waitpid(child, &status, 0) == child && status == 0);
+}
+
+/* Bursts of one length from a file, at offsets and as a stream: no byte is read that was not asked for, and all of it comes. */
+static void file_bursts(int fd, int stream, const uint8_t *image, size_t n, size_t len) {
+  struct source source;
+  uint8_t state[STATE];
+  size_t least = len < n ? len : n;
+  struct reader reader = stream ? stream_reader(&source, fd) : file_reader(&source, fd);
+  lseek(fd, 0, SEEK_SET);
+  CHECK(reader.ask(&source, 0, len).len == least && lseek(fd, 0, SEEK_CUR) == (off_t)(stream ? least : 0));
+  reader = stream ? stream_reader(&source, fd) : file_reader(&source, fd);
+  lseek(fd, 0, SEEK_SET);
+  roostcord_pieces_fresh(state, STATE);
+  struct feed_result fed = feed_image(&reader, len, state);
+  CHECK(fed.end == FEED_WHOLE && fed.refusal == 0);
+  holds(state, image, n);
+}
+
+static void files(const uint8_t *image, size_t n) {
+  struct source source;
+  struct lossy lossy;
+  const struct reader loses = {ask_lossy, NULL, &lossy, FEED_TRIES};
+  uint8_t state[STATE];
+  FILE *file = tmpfile();
+  int fd = file ? fileno(file) : -1;
+  if (fd < 0 || write(fd, image, n) != (ssize_t)n) exit((perror("test"), 2));
+  CHECK(can_seek(fd));
+  for (size_t len = 1; len <= 2 * IMAGE_MAX; len += len < 40 ? 1 : 299)
+    for (int stream = 0; stream < 2; stream++) file_bursts(fd, stream, image, n, len);
+  roostcord_pieces_fresh(state, STATE);
+  lossy = (struct lossy){file_reader(&source, fd), 0}; /* a file is read again where a burst was lost */
+  CHECK(feed_image(&loses, BURST, state).end == FEED_WHOLE && lossy.asks == (n + BURST - 1) / BURST + 2);
+  holds(state, image, n);
+  fclose(file);
+  struct reader closed = file_reader(&source, -1);
+  struct feed_result fed = feed_image(&closed, BURST, state);
+  CHECK(fed.end == FEED_FAILED && fed.error == EBADF);
 }
 
 int main(int argc, char **argv) {
-  static uint8_t image[4096];
+  static uint8_t image[2 * IMAGE_MAX];
   for (int i = 1; i < argc; i++) {
     FILE *file = fopen(argv[i], "rb");
     if (!file) {
@@ -245,7 +627,15 @@ int main(int argc, char **argv) {
       every_list_length(edge, len);
       release(edge, len);
     }
-    pieces(image, n < 2048 ? n : 2048);
+    if (n > IMAGE_MAX) n = IMAGE_MAX;
+    every_refusal(image, n);
+    pieces(image, n);
+    if (n <= 2 * BURST) continue;
+    unruly_runs(image, n);
+    burst_twice(image, n);
+    giving_up(image);
+    streams(image, n);
+    files(image, n);
   }
   largest_report();
   printf("test: %ld checks, %ld faults\n", checks, faults);
