@@ -314,6 +314,16 @@ fn findings(image: &Image) -> usize {
     count
 }
 
+/// Both sides do the same work: clean images have no finding, and ours writes as many of a mixed one as the Rust finds.
+fn check_images() {
+    let mut report = [0; ours::REPORT_MAX];
+    assert!(clean(SHUFFLED).iter().all(|image| findings(image) == 0), "a clean image has a finding");
+    for image in &mixed(SHUFFLED) {
+        ours::lint(image, &mut report);
+        assert!(usize::from(report[4]) == findings(image), "an image has other findings than the Rust's: see the judge");
+    }
+}
+
 /// The cells of a row that are about time.
 fn time_cells(f: &Figures) -> String {
     let r = &f.ratios;
@@ -421,6 +431,7 @@ fn main() {
             std::process::exit(2);
         }
     }
+    check_images();
     let own = instructions("nothing");
     print_machine();
     println!();
