@@ -405,12 +405,14 @@ fn print_stack() {
     for (image, report) in mixed(FIXED).iter().zip(&reports(FIXED)) {
         for (most, (name, function)) in most.iter_mut().zip(symbols) {
             let mut state = [0; ours::STATE_SIZE];
-            ours::pieces_fresh(&mut state);
-            ours::pieces_feed(&mut state, 0, &image[..LEN - 16]);
             let mut out = [0; ours::REPORT_MAX];
-            let arguments = arguments(name, image, report, &mut state, &mut out);
+            let ready = || {
+                ours::pieces_fresh(&mut state);
+                ours::pieces_feed(&mut state, 0, &image[..LEN - 16]);
+                stack::Call { function, arguments: arguments(name, image, report, &mut state, &mut out) }
+            };
             // SAFETY: the arguments are those of station/roostcord.h, and nothing else uses the buffers meanwhile.
-            *most = (*most).max(unsafe { room.used(&stack::Call { function, arguments }) });
+            *most = (*most).max(unsafe { room.used(ready) });
             black_box((&state, &out));
         }
     }
