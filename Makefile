@@ -3,15 +3,16 @@
 IMAGE ?= samples/ddr5-4800.bin
 IMAGES ?= 10000000
 
-.PHONY: help lint station test judge bench list strength surface trace fmt
+.PHONY: help lint station test judge bench list strength cited surface trace fmt
 
 help:
 	@echo 'make lint       lint an image: make lint IMAGE=path (samples/ddr5-4800.bin if none is named)'
 	@echo 'make station    build the C library and the host program, target/station/station'
-	@echo 'make test       prove every crate, try every must-fail edit, run every program and test (minutes)'
+	@echo 'make test       prove every crate, try every must-fail edit, run every program and test (minutes); STRICT=1 fails if one did not run'
 	@echo 'make judge      compare with the Rust linter spdr: make judge IMAGES=number SPDR=place of its sources (a minute)'
 	@echo 'make bench      time it against spdr, as Markdown: make bench SPDR=place (half a minute)'
 	@echo 'make strength   change the code in some 440 small ways and have the prover judge each (an hour or two; docs/strength.txt)'
+	@echo 'make cited      have the prover judge anew what docs/PROMISES.md cites of functions that have changed since (minutes)'
 	@echo 'make surface    hold the public calls to docs/PROMISES.md (a second)'
 	@echo 'make list       hold the list that replay runs on to the Rust linter, where that is at hand (SPDR=place)'
 	@echo 'make trace      hold docs/TRACE.md and docs/TRUST.md to the files that they cite (a second)'
@@ -38,7 +39,6 @@ surface:
 list:
 	@tools/replay-list
 
-.PHONY: trace
 trace:
 	@tools/trace
 
@@ -48,3 +48,7 @@ fmt:
 strength:
 	@tools/strength run
 	@tools/strength report
+
+cited:
+	@tools/strength run --cited
+	@tools/surface

@@ -314,6 +314,16 @@ fn findings(image: &Image) -> usize {
     count
 }
 
+/// Both sides do the same work: clean images have no finding, and ours writes as many of a mixed one as the Rust finds.
+fn check_images() {
+    let mut report = [0; ours::REPORT_MAX];
+    assert!(clean(SHUFFLED).iter().all(|image| findings(image) == 0), "a clean image has a finding");
+    for image in &mixed(SHUFFLED) {
+        ours::lint(image, &mut report);
+        assert!(usize::from(report[4]) == findings(image), "an image has other findings than the Rust's: see the judge");
+    }
+}
+
 /// The cells of a row that are about time.
 fn time_cells(f: &Figures) -> String {
     let r = &f.ratios;
@@ -395,12 +405,14 @@ fn print_stack() {
     for (image, report) in mixed(FIXED).iter().zip(&reports(FIXED)) {
         for (most, (name, function)) in most.iter_mut().zip(symbols) {
             let mut state = [0; ours::STATE_SIZE];
-            ours::pieces_fresh(&mut state);
-            ours::pieces_feed(&mut state, 0, &image[..LEN - 16]);
             let mut out = [0; ours::REPORT_MAX];
-            let arguments = arguments(name, image, report, &mut state, &mut out);
+            let ready = || {
+                ours::pieces_fresh(&mut state);
+                ours::pieces_feed(&mut state, 0, &image[..LEN - 16]);
+                stack::Call { function, arguments: arguments(name, image, report, &mut state, &mut out) }
+            };
             // SAFETY: the arguments are those of station/roostcord.h, and nothing else uses the buffers meanwhile.
-            *most = (*most).max(unsafe { room.used(&stack::Call { function, arguments }) });
+            *most = (*most).max(unsafe { room.used(ready) });
             black_box((&state, &out));
         }
     }
@@ -421,6 +433,7 @@ fn main() {
             std::process::exit(2);
         }
     }
+    check_images();
     let own = instructions("nothing");
     print_machine();
     println!();

@@ -1,6 +1,6 @@
 //! The Rust linter spdr as judge of Roostcord: both are asked of the same images, and every difference that docs/DIFFERENCES.md
 //! does not list is a fault. Usage: judge IMAGES [SEED]. Fixed families run first, then random images until there are so many.
-//! Progress and differences go to stderr, one line of figures to stdout; exit status 1 on a difference.
+//! Progress and differences go to stderr, one line of figures to stdout; exit status 1 on a difference, 2 if too little was tried.
 
 mod compare;
 mod images;
@@ -70,7 +70,7 @@ impl Judge {
     }
 
     fn see_cut(&mut self, image: &[u8], cut: Option<Cut>) {
-        debug_assert!(image.iter().skip(PROFILES).all(|&b| b == 0));
+        assert!(image.iter().skip(PROFILES).all(|&b| b == 0), "an image may have a vendor profile");
         let ours = Answers::of_image(image);
         match compare::compare(image, &ours) {
             Ok(Verdict::Same) => {}
@@ -353,6 +353,20 @@ fn random(judge: &mut Judge) {
     }
 }
 
+/// What the images left untried: nothing was compared where nothing was found. Code 9 has no image: package and die count are read from
+/// the same bits.
+fn untried(judge: &Judge) -> Vec<String> {
+    let seen = [
+        ("an identity", judge.identities),
+        ("timings", judge.timings),
+        ("an image in pieces", judge.fed),
+        ("row 1 of docs/DIFFERENCES.md", judge.short),
+        ("row 2 of docs/DIFFERENCES.md", judge.other),
+    ];
+    let codes = (1..9).map(|code| (format!("code {code}"), judge.findings[code]));
+    seen.into_iter().map(|(what, n)| (what.to_string(), n)).chain(codes).filter(|(_, n)| *n == 0).map(|(what, _)| what).collect()
+}
+
 fn arguments() -> Option<(u64, u64)> {
     let mut args = std::env::args().skip(1);
     let wanted = args.next()?.parse().ok()?;
@@ -389,5 +403,13 @@ fn main() -> ExitCode {
         judge.seed,
         judge.started.elapsed().as_secs()
     );
-    if judge.differences == 0 { ExitCode::SUCCESS } else { ExitCode::FAILURE }
+    if judge.differences != 0 {
+        return ExitCode::FAILURE;
+    }
+    let untried = untried(&judge);
+    if !untried.is_empty() {
+        eprintln!("judge: no image had {}: they try too little", untried.join(", nor "));
+        return ExitCode::from(2);
+    }
+    ExitCode::SUCCESS
 }

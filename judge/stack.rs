@@ -25,17 +25,19 @@ impl Stack {
         Stack(Box::new(Room([0; ROOM])))
     }
 
-    /// The bytes from the top of the stack to the deepest that the call touched.
+    /// The bytes from the top of the stack to the deepest that the call touched. The call is made ready anew for each paint, since it may
+    /// change what it is lent.
     ///
     /// # Safety
     /// The arguments must be what the function asks for.
-    pub unsafe fn used(&mut self, call: &Call) -> usize {
+    pub unsafe fn used(&mut self, mut ready: impl FnMut() -> Call) -> usize {
         let mut most = 0;
         for paint in PAINTS {
+            let call = ready();
             self.0.0.fill(paint);
             let top = self.0.0.as_mut_ptr_range().end;
             // SAFETY: the stack is ours and larger than any call uses (see below); the rest is asked of the caller.
-            unsafe { run(top, call) };
+            unsafe { run(top, &call) };
             let left = self.0.0.iter().take_while(|&&b| b == paint).count();
             assert!(left > ROOM / 2, "a call used more stack than there is to measure");
             most = most.max(ROOM - left);
