@@ -614,6 +614,10 @@ static void files(const uint8_t *image, size_t n) {
 
 int main(int argc, char **argv) {
   static uint8_t image[2 * IMAGE_MAX];
+  if (argc < 2) {
+    fputs("usage: test IMAGE...\n", stderr);
+    return 2;
+  }
   for (int i = 1; i < argc; i++) {
     FILE *file = fopen(argv[i], "rb");
     if (!file) {
@@ -634,6 +638,7 @@ int main(int argc, char **argv) {
     if (n > IMAGE_MAX) n = IMAGE_MAX;
     every_refusal(image, n);
     pieces(image, n);
+    CHECK(n > 2 * BURST); /* or the feeding loop is not tried */
     if (n <= 2 * BURST) continue;
     unruly_runs(image, n);
     burst_twice(image, n);
