@@ -225,18 +225,20 @@ static void every_list_length(const uint8_t *image, size_t n) {
   }
 }
 
-/* Every value of every byte that identity looks codes up in, and tCK 0: the exact refusal of each. */
+/* Every value of every byte that identity looks codes up in, alone and beside another one whose codes are all refused: the exact refusal of
+ * each, and which comes first. And tCK 0. */
 static void every_refusal(const uint8_t *sample, size_t n) {
   static const size_t bytes[] = {0, 2, 3, 4, 6, 7, 235};
+  enum { BYTES = sizeof bytes / sizeof *bytes };
   uint8_t image[ROOSTCORD_IMAGE_MAX];
-  uint32_t list[ROOSTCORD_TIMINGS_COUNT];
+  uint32_t list[ROOSTCORD_IDENTITY_COUNT];
   if (n < IDENTITY_NEEDS) return;
-  for (size_t k = 0; k < sizeof bytes / sizeof *bytes; k++) {
-    memcpy(image, sample, n);
-    for (int value = 0; value < 256; value++) {
-      image[bytes[k]] = (uint8_t)value;
-      CHECK(roostcord_identity(image, n, list, ROOSTCORD_TIMINGS_COUNT) == identity_of(image, n));
-    }
+  for (size_t k = 0; k < BYTES * BYTES * 256; k++) {
+    size_t one = bytes[k % BYTES], other = bytes[k / BYTES % BYTES];
+    memcpy(image, sample, IDENTITY_NEEDS);
+    if (other != one) image[other] = 0xFF;
+    image[one] = (uint8_t)(k / BYTES / BYTES);
+    CHECK(roostcord_identity(image, IDENTITY_NEEDS, list, ROOSTCORD_IDENTITY_COUNT) == identity_of(image, IDENTITY_NEEDS));
   }
   memcpy(image, sample, n);
   image[20] = image[21] = 0;
