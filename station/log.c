@@ -105,7 +105,7 @@ static struct burst file_end(struct log *log) {
 static struct burst ask_log(void *context, size_t offset, size_t len) {
   struct log *log = context;
   (void)len; /* a line is as long as it is */
-  /* Asked again for what comes before a line that was handed on, or past the end: those bytes are in no line that is left. */
+  /* The line before began past what is asked for: a gap, and a gap ends the log. So does its end. */
   if (log->over || log->offset > offset) return (struct burst){BURST_GONE, log->offset, 0, NULL, 0};
   errno = 0;
   if (!next_burst(log)) return file_end(log);

@@ -155,12 +155,14 @@ static const struct field {
   size_t byte;
   int low, bits;
   uint32_t accepted;
-} fields[] = {{0, 4, 3, 0x1E}, {3, 0, 4, 0xDFE}, {4, 0, 5, 0x1FE}, {4, 5, 3, 0x3F}, {6, 5, 3, 0xF}, {7, 5, 3, 0xF}, {7, 0, 3, 0x7}, {235, 0, 3, 0xF}, {235, 5, 3, 0xF}};
+} fields[] = {{0, 4, 3, 0x1E}, {3, 0, 4, 0xDFE}, {4, 0, 5, 0x1FE}, {4, 5, 3, 0x3F},  {6, 5, 3, 0xF},
+              {7, 5, 3, 0xF},  {7, 0, 3, 0x7},   {235, 0, 3, 0xF}, {235, 5, 3, 0xF}};
+enum { FIELDS = sizeof fields / sizeof *fields };
 
 /* The answer about the identity of an image, with places enough. */
 static int32_t identity_of(const uint8_t *image, size_t n) {
   if (n < IDENTITY_NEEDS) return -ROOSTCORD_TRUNCATED;
-  for (int32_t k = 0; k < 9; k++) {
+  for (int32_t k = 0; k < FIELDS; k++) {
     int32_t code = image[fields[k].byte] >> fields[k].low & ((1 << fields[k].bits) - 1);
     if (!(fields[k].accepted >> code & 1)) return -(ROOSTCORD_UNKNOWN_CODE + 256 * (k + 1) + (1 << 20) * code);
     if (k == 0 && image[2] != DDR5) return -(ROOSTCORD_NOT_DDR5 + 256 * image[2]); /* the second check */
@@ -223,18 +225,20 @@ static void every_list_length(const uint8_t *image, size_t n) {
   }
 }
 
-/* Every value of every byte that identity looks codes up in, and tCK 0: the exact refusal of each. */
+/* Every value of every byte that identity looks codes up in, alone and beside another one whose codes are all refused: the exact refusal of
+ * each, and which comes first. And tCK 0. */
 static void every_refusal(const uint8_t *sample, size_t n) {
   static const size_t bytes[] = {0, 2, 3, 4, 6, 7, 235};
+  enum { BYTES = sizeof bytes / sizeof *bytes };
   uint8_t image[ROOSTCORD_IMAGE_MAX];
-  uint32_t list[ROOSTCORD_TIMINGS_COUNT];
+  uint32_t list[ROOSTCORD_IDENTITY_COUNT];
   if (n < IDENTITY_NEEDS) return;
-  for (size_t k = 0; k < sizeof bytes / sizeof *bytes; k++) {
-    memcpy(image, sample, n);
-    for (int value = 0; value < 256; value++) {
-      image[bytes[k]] = (uint8_t)value;
-      CHECK(roostcord_identity(image, n, list, ROOSTCORD_TIMINGS_COUNT) == identity_of(image, n));
-    }
+  for (size_t k = 0; k < BYTES * BYTES * 256; k++) {
+    size_t one = bytes[k % BYTES], other = bytes[k / BYTES % BYTES];
+    memcpy(image, sample, IDENTITY_NEEDS);
+    if (other != one) image[other] = 0xFF;
+    image[one] = (uint8_t)(k / BYTES / BYTES);
+    CHECK(roostcord_identity(image, IDENTITY_NEEDS, list, ROOSTCORD_IDENTITY_COUNT) == identity_of(image, IDENTITY_NEEDS));
   }
   memcpy(image, sample, n);
   image[20] = image[21] = 0;
@@ -441,8 +445,9 @@ static void unruly_runs(const uint8_t *sample, size_t n) {
     old_ended += ended;
     old_false += ended && false_timings(state, image, length);
   }
-  printf("test: of %d unruly runs %ld ended whole, %ld were given up, %ld failed, %ld were too long; by arrival order %ld ended, %ld with false timings\n",
-         RUNS, ends[FEED_WHOLE], ends[FEED_GAVE_UP], ends[FEED_FAILED], ends[FEED_REFUSED], old_ended, old_false);
+  printf("test: of %d unruly runs %ld ended whole, %ld were given up, %ld failed, %ld were too long", RUNS, ends[FEED_WHOLE],
+         ends[FEED_GAVE_UP], ends[FEED_FAILED], ends[FEED_REFUSED]);
+  printf("; by arrival order %ld ended, %ld with false timings\n", old_ended, old_false);
   CHECK(ends[FEED_WHOLE] >= RUNS / 10 && ends[FEED_GAVE_UP] >= RUNS / 10 && ends[FEED_FAILED] >= RUNS / 100 && ends[FEED_REFUSED] >= 10);
   CHECK(ends[FEED_GONE] == 0 && old_false >= RUNS / 10);
 }
@@ -481,9 +486,9 @@ static void burst_twice(const uint8_t *image, size_t n) {
   struct burst script[IMAGE_MAX / BURST + 3];
   uint8_t state[STATE], shifted[IMAGE_MAX + BURST];
   struct scripted s;
-  size_t steps = 0, len;
+  size_t steps = 0;
   for (size_t at = 0; at < n; at += BURST) {
-    len = n - at < BURST ? n - at : BURST;
+    size_t len = n - at < BURST ? n - at : BURST;
     script[steps++] = (struct burst){BURST_BYTES, at, len, image + at, 0};
     if (at == BURST) script[steps] = script[steps - 1], steps++;
   }
@@ -548,6 +553,7 @@ static void streams(const uint8_t *image, size_t n) {
   int ends[2];
   if (pipe(ends) != 0) exit((perror("test"), 2));
   CHECK(!can_seek(ends[0]));
+  fflush(stdout); /* or the child may have it to print as well */
   pid_t child = fork();
   if (child == 0) { /* a burst in two parts, and then the whole image */
     int sent = write(ends[1], image, BURST / 3) == BURST / 3 && usleep(50000) == 0;
@@ -610,6 +616,10 @@ static void files(const uint8_t *image, size_t n) {
 
 int main(int argc, char **argv) {
   static uint8_t image[2 * IMAGE_MAX];
+  if (argc < 2) {
+    fputs("usage: test IMAGE...\n", stderr);
+    return 2;
+  }
   for (int i = 1; i < argc; i++) {
     FILE *file = fopen(argv[i], "rb");
     if (!file) {
@@ -630,6 +640,7 @@ int main(int argc, char **argv) {
     if (n > IMAGE_MAX) n = IMAGE_MAX;
     every_refusal(image, n);
     pieces(image, n);
+    CHECK(n > 2 * BURST); /* or the feeding loop is not tried */
     if (n <= 2 * BURST) continue;
     unruly_runs(image, n);
     burst_twice(image, n);
