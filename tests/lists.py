@@ -61,8 +61,7 @@ class Given:
     """The list that is checked in, and three of its records: the richest, one that is refused, and one that docs/DIFFERENCES.md lists."""
 
     def __init__(self):
-        self.data = (TOP / "crates" / "replay" / "stdin").read_bytes()
-        self.records = records_of(self.data)
+        self.records = records_of((TOP / "crates" / "replay" / "stdin").read_bytes())
         self.images = [(i, r) for i, r in enumerate(self.records) if r[0] != 0]
         self.rich = max(self.images, key=lambda x: len(numbers(x[1])))
         self.refused = next(x for x in self.images if numbers(x[1])[3][0] == "timings" and x[1][0] == 1)
