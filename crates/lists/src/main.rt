@@ -348,28 +348,26 @@ fn back(list: [Finding; 17], len: usize, out: &[u8]) {
     yes(same_places(list, again, len));
 }
 
-// Writes so many findings into so many of 230 bytes.
-fn write_case(list: [Finding; 17], len: usize, room: usize)
-    requires { ⌜ (len ≤ 17) × (room ≤ 230) ⌝ }
+// Writes so many findings into a buffer that is all 170.
+fn write_case(list: [Finding; 17], len: usize, out: &mut [u8])
+    requires { ⌜ len ≤ 17 ⌝ }
 {
     text(b"write,");
     number(len);
     text(b" findings into");
-    number(room);
+    number(out.len());
     text(b" bytes:");
-    let mut out = [170u8; 230];
-    let answer = write_from(3, list, len, &mut out[..room]);
     let mut size: usize = 0;
-    match answer {
+    match write_from(3, list, len, out) {
         WriteAnswer::Bytes(n) => {
             number(n);
-            back(list, len, &out);
+            back(list, len, out);
             size = n;
         }
         WriteAnswer::Refused(why) => refused(why),
     }
-    text(b", bytes stayed");
-    number(untouched(&out, size));
+    text(b", stayed");
+    number(untouched(out, size));
     text(b"\n");
 }
 
@@ -446,35 +444,55 @@ fn rating() {
     show(list, 5);
 }
 
-fn writing(list: [Finding; 17]) {
-    write_case(list, 0, 5);
-    write_case(list, 0, 4);
-    write_case(list, 2, 33);
-    write_case(list, 2, 32);
-    write_case(list, 15, 215);
-    write_case(list, 15, 214);
-    write_case(list, 15, 230);
-    write_case(list, 16, 230);
-    write_case(list, 17, 230);
-    write_case(list, 16, 0);
-    write_case(marked(), 1, 230);
+fn write_few(list: [Finding; 17]) {
+    let mut none = [170u8; 5];
+    let mut none_short = [170u8; 4];
+    let mut two = [170u8; 33];
+    let mut two_short = [170u8; 32];
+    write_case(list, 0, &mut none);
+    write_case(list, 0, &mut none_short);
+    write_case(list, 2, &mut two);
+    write_case(list, 2, &mut two_short);
 }
 
-fn reading_back(list: [Finding; 17]) {
+fn write_most(list: [Finding; 17]) {
+    let mut most = [170u8; 215];
+    let mut most_short = [170u8; 214];
+    let mut longer = [170u8; 230];
+    write_case(list, 15, &mut most);
+    write_case(list, 15, &mut most_short);
+    write_case(list, 15, &mut longer);
+}
+
+// Sixteen and seventeen findings that are all the table's, and one that is not.
+fn write_refused(mut list: [Finding; 17]) {
+    list[15] = list[0];
+    list[16] = list[1];
+    let mut room = [170u8; 230];
+    let mut short = [170u8; 4];
+    write_case(list, 16, &mut room);
+    write_case(list, 17, &mut room);
+    write_case(list, 16, &mut short);
+    write_case(marked(), 1, &mut room);
+}
+
+fn read_most(list: [Finding; 17]) {
     let mut most = [0u8; 215];
-    let mut two = [0u8; 33];
     write_from(3, list, 15, &mut most);
-    write_from(2, list, 2, &mut two);
     read_case(b"read 15 findings,", &most, 0);
     read_case(b"read 15 findings,", &most, 14);
     read_case(b"read 15 findings,", &most, 15);
     read_case(b"read 15 findings,", &most, 17);
+}
+
+fn read_two(list: [Finding; 17]) {
+    let mut two = [0u8; 33];
+    write_from(2, list, 2, &mut two);
     read_case(b"read 2 findings,", &two, 14);
     read_case(b"read 2 findings,", &two, 15);
     read_case(b"read 2 findings,", &two, 17);
-    read_case(b"read 2 findings, a byte short,", &two[0..32], 14);
-    read_case(b"read 2 findings, a byte short,", &two[0..32], 15);
     two[2] = 2;
+    read_case(b"read version 2,", &two, 14);
     read_case(b"read version 2,", &two, 17);
 }
 
@@ -482,13 +500,13 @@ fn main() {
     let image = sample();
     linting(image);
     let after = lint_into(&image, marked(), 15);
-    let mut list = after.list;
+    let list = after.list;
     show(list, 15);
     feeding(image);
     rating();
-    // Sixteen and seventeen findings that are all the table's.
-    list[15] = list[0];
-    list[16] = list[1];
-    writing(list);
-    reading_back(list);
+    write_few(list);
+    write_most(list);
+    write_refused(list);
+    read_most(list);
+    read_two(list);
 }
