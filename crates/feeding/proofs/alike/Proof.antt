@@ -1,17 +1,18 @@
--- `feeding::same_findings` is safe and ends: the place is one of the fifteen. Assumes nothing.
+-- `feeding::alike` is safe and ends: both bytes lie inside the image. Assumes nothing.
 use Prim.Native.Nat.{_-_, _≤_}
+use lib.ListN.{length}
 use borrow.Author.Needs.{needs}
-use Rattle.feeding.proofs.same_findings.Statement.{statement}
-use Rattle.feeding.proofs.same_findings.Tie as tie
+use Rattle.feeding.proofs.alike.Statement.{statement}
+use Rattle.feeding.proofs.alike.Tie as tie
 
 abbrev Inv-loop : tie.InvT-loop
-Inv-loop left right i₀ i = i ≤ 15
+Inv-loop image apart same₀ i₀ same i = i ≤ length image
 
 abbrev μ-loop : tie.MeasureT-loop
-μ-loop left right i₀ i = 15 - i
+μ-loop image apart same₀ i₀ same i = length image - i
 
-pub same-findings-spec : {M : Type 1} → statement M
-same-findings-spec =
+pub alike-spec : {M : Type 1} → statement M
+alike-spec =
     tie.close
     (tie.spec
     Inv-loop
@@ -21,8 +22,6 @@ same-findings-spec =
     (λ c. search needs)
     (λ c. search needs)
     (λ c. search needs)
-    (λ c. search needs)
-    (λ c κs. search needs)
     (λ c. search needs)
     (λ c. search needs)
     (λ c. search needs)
