@@ -261,6 +261,19 @@ fn same_finding(a: Finding, b: Finding) -> bool {
     false
 }
 
+// The codes of the findings.
+fn codes(found: Findings) {
+    let items = found.items;
+    let mut i: usize = 0;
+    while i < 15 {
+        if i < found.count {
+            let one = items[i];
+            number(one.code as usize);
+        }
+        i += 1;
+    }
+}
+
 // How many of the fifteen places differ; a blank place is as another.
 fn unequal_findings(a: Findings, b: Findings) -> usize {
     let left = a.items;
@@ -472,12 +485,21 @@ fn short(image: &[u8]) {
     verdict(same(asked(a), whole(part)));
 }
 
-fn run(image: &[u8]) {
-    text(b"alike: neighbours");
+// What the image is like: its findings, and how many bytes would hide a shift.
+fn about(image: &[u8]) {
+    let linted = rules::lint_image(image);
+    let found = linted.findings;
+    text(b"image: codes");
+    codes(found);
+    text(b", neighbours alike");
     number(alike(image, 1));
-    text(b", sixteen apart");
+    text(b", sixteen apart alike");
     number(alike(image, 16));
     text(b"\n");
+}
+
+fn run(image: &[u8]) {
+    about(image);
     bench(image);
     text(b"cuts");
     number(cuts(image, whole(image)));

@@ -216,8 +216,17 @@ fn rest(list: [Finding; 17], found: Findings) {
 }
 
 fn left(list: [Finding; 17], from: usize) {
+    kept(stayed(list, from), 17, from);
+}
+
+// How many of those behind the first `from` are as they were.
+fn kept(stayed: usize, all: usize, from: usize) {
     text(b", stayed");
-    number(stayed(list, from));
+    number(stayed);
+    if from <= all {
+        text(b" of");
+        number(all - from);
+    }
     text(b"\n");
 }
 
@@ -349,26 +358,26 @@ fn back(list: [Finding; 17], len: usize, out: &[u8]) {
 }
 
 // Writes so many findings into a buffer that is all 170.
-fn write_case(list: [Finding; 17], len: usize, out: &mut [u8])
+fn write_case(label: &[u8], list: [Finding; 17], len: usize, out: &mut [u8])
     requires { ⌜ len ≤ 17 ⌝ }
 {
-    text(b"write,");
+    text(label);
     number(len);
-    text(b" findings into");
+    text(b" of the list into");
     number(out.len());
     text(b" bytes:");
-    let mut size: usize = 0;
     match write_from(3, list, len, out) {
         WriteAnswer::Bytes(n) => {
+            text(b" bytes");
             number(n);
             back(list, len, out);
-            size = n;
+            kept(untouched(out, n), out.len(), n);
         }
-        WriteAnswer::Refused(why) => refused(why),
+        WriteAnswer::Refused(why) => {
+            refused(why);
+            kept(untouched(out, 0), out.len(), 0);
+        }
     }
-    text(b", stayed");
-    number(untouched(out, size));
-    text(b"\n");
 }
 
 // A DDR5 image with a finding of every rule that an image can break, fifteen: the seven regions, the device count (bus 8, I/O 16), and
@@ -449,19 +458,19 @@ fn write_few(list: [Finding; 17]) {
     let mut none_short = [170u8; 4];
     let mut two = [170u8; 33];
     let mut two_short = [170u8; 32];
-    write_case(list, 0, &mut none);
-    write_case(list, 0, &mut none_short);
-    write_case(list, 2, &mut two);
-    write_case(list, 2, &mut two_short);
+    write_case(b"write,", list, 0, &mut none);
+    write_case(b"write,", list, 0, &mut none_short);
+    write_case(b"write,", list, 2, &mut two);
+    write_case(b"write,", list, 2, &mut two_short);
 }
 
 fn write_most(list: [Finding; 17]) {
     let mut most = [170u8; 215];
     let mut most_short = [170u8; 214];
     let mut longer = [170u8; 230];
-    write_case(list, 15, &mut most);
-    write_case(list, 15, &mut most_short);
-    write_case(list, 15, &mut longer);
+    write_case(b"write,", list, 15, &mut most);
+    write_case(b"write,", list, 15, &mut most_short);
+    write_case(b"write,", list, 15, &mut longer);
 }
 
 // Sixteen and seventeen findings that are all the table's, and one that is not.
@@ -470,10 +479,10 @@ fn write_refused(mut list: [Finding; 17]) {
     list[16] = list[1];
     let mut room = [170u8; 230];
     let mut short = [170u8; 4];
-    write_case(list, 16, &mut room);
-    write_case(list, 17, &mut room);
-    write_case(list, 16, &mut short);
-    write_case(marked(), 1, &mut room);
+    write_case(b"write,", list, 16, &mut room);
+    write_case(b"write,", list, 17, &mut room);
+    write_case(b"write,", list, 16, &mut short);
+    write_case(b"write code 77,", marked(), 1, &mut room);
 }
 
 fn read_most(list: [Finding; 17]) {
