@@ -5,7 +5,7 @@
 --     cuts, joins          the first places of a local array are taken apart from the others, and put before them again
 -- Assumes nothing.
 use mathlib.Core.Path.{_≡_, refl, sym, _∙_, ap, subst}
-use Prim.Native.Nat.{ℕ, suc, _<_, _≤_, _^_}
+use Prim.Native.Nat.{ℕ, _<_, _≤_, _^_}
 use mathlib.Core.List.{List, [], _∷_, _++_, map}
 use native.Mathlib.Omega.{arith}
 use lib.Dec.{T}
@@ -15,14 +15,14 @@ use mir.Val.{ofList}
 use base.Fml.{flent}
 use types.Kit.{use2, use3, Go}
 use types.SemTy.{cells, Arr}
-use types.Tokens.{lft-new, lft-end, lent-back}
+use types.Tokens.{lft-new, lft-end}
 use denote.Memory.{mem}
 use denote.Builtin.{ArrayOf}
 use denote.Lend.{Held, lends-slice, slice-back}
 use denote.Index.{row, whole-in, whole-out}
 use denote.Triple.Walked.{needs}
 use borrow.Table.Elements.{at, cut-app, join-app, same-len, take-le, length-take-le}
-use Rattle.findings.proofs.Walk.{URA, fullShare, Name, Ty, Operand, Place, Body, Fn, named, erased, imm, mut, w64, tyInt, tyRef, tyArray, place, copy, rvOpd, addrOf, aggregate, seq, assign, call, return, local, valueLocal, Val, WT, hasTy, vint, vstruct, SProp, emp, id⊢, GName, Lft, Share, Fml, ftrue, fat, flft, Model, Routine, Heap, Env, WpFn, Tables, Atoms, fact, Lfts, Shares, Within, toks, GhostRules, Running, givenOf, Given, Goal, Item, Step, step, ‵, raw, _⊛_, some, later, prop, Post, runs, lands, Seq, Sq, _$_, _∵_, !, qed, move, keep, use0, use1, split, join, pick, drop, rewrite, fsplit, fjoin, feqL, suffices, frame, await, done, Opds, look, init, forget, stop, from, load, of-opd, addr, and-then, no-more, assigns, land, returns, enter, alloc1, alloc0, params1, pass1, pass0, free1, free0, agg, fmOf, owns, Is, Tells, u8, usize, pointee, RefT, now, sliceTy, MutSlice, ShrSlice, Room, finally, sliceVal, slice-vals, shr-slice-tells, shr-slice-lawful, uint-vals, uint-tells, only, heard, nothing, Slot, plain, mutSliceOf, shrSliceOf, Exit, Last, left, unchanged, yes, Triple, Contract, Ended, Clauses, says, Stays, stay-dropped, goes-dropped, ends-at, walked}
+use Rattle.findings.proofs.Walk.{URA, fullShare, Name, Ty, Operand, Place, Body, Fn, named, erased, imm, mut, w64, tyInt, tyRef, tyArray, place, copy, rvOpd, addrOf, aggregate, seq, assign, call, return, local, valueLocal, Val, WT, hasTy, vint, vstruct, SProp, id⊢, GName, Fml, ftrue, fat, flft, Model, Routine, Heap, Env, WpFn, Tables, Atoms, fact, Lfts, Shares, Within, toks, GhostRules, Running, givenOf, Given, Goal, Item, Step, step, ‵, raw, _⊛_, some, later, prop, Post, runs, lands, Seq, Sq, _$_, _∵_, !, qed, move, keep, use0, use1, split, join, pick, drop, rewrite, fsplit, fjoin, feqL, suffices, frame, await, done, Opds, look, init, forget, stop, from, load, of-opd, addr, and-then, no-more, assigns, land, returns, enter, alloc1, alloc0, params1, pass1, pass0, free1, free0, agg, fmOf, owns, Is, Tells, u8, usize, pointee, RefT, now, sliceTy, MutSlice, Room, finally, sliceVal, slice-vals, shr-slice-tells, shr-slice-lawful, uint-vals, uint-tells, only, heard, nothing, Slot, plain, mutSliceOf, shrSliceOf, Exit, Last, left, unchanged, yes, Triple, Ended, Clauses, says, Stays, stay-dropped, goes-dropped, ends-at, walked}
 use prog.Routine as routine
 use denote.Struct.Laws as LL
 use Rattle.findings.specs.declared.Finding.{Finding}
