@@ -1,13 +1,38 @@
 // Runs what is only run of feeding by pieces, and writes what happened: the bench lines on pieces, the run of the forty certificates,
 // every cut of an image into two, bursts out of order, and a run up to the longest image.
+//
+// A state answers as the whole image does where every field of both records, or the refusal and what it carries, and every finding with
+// all its numbers are the same. Each field is made one number for that, a time and its clocks together.
+ghost use Prim.Native.Nat.{_≤_};
+ghost use lib.ListN.{length};
+use decoders::identity::IdentityAndBase;
 use decoders::identity::IdentityAnswer;
+use decoders::timing::Picoseconds;
+use decoders::timing::TimingPair;
+use decoders::timing::Timings;
 use decoders::timing::TimingsAnswer;
 use findings::Finding;
 use findings::Findings;
+use findings::Severity;
 use libc::STDOUT_FILENO;
 use pieces::Fed;
 use pieces::FeedAnswer;
 use pieces::Pieces;
+use reading::Refusal;
+
+// What is answered of an image: both records as numbers, and the findings.
+struct Answers {
+    identity: [u64; 23],
+    timings: [u64; 23],
+    findings: Findings,
+}
+
+// How many fields of each record, and how many of the fifteen places for findings, differ between two of those.
+struct Differing {
+    identity: usize,
+    timings: usize,
+    findings: usize,
+}
 
 fn text(s: &[u8]) {
     io::write_all(STDOUT_FILENO, s);
@@ -37,40 +62,181 @@ fn told(fed: Fed) -> Pieces {
     fed.state
 }
 
-// A DDR5 image with findings of every kind of rule: three regions, the device count (bus 8, I/O 16), and the timing rules of the last
-// bench line (tCK 400, tAA 401, tRCD 403, tRP 401, tRAS 402, tRC 401).
-fn sample() -> [u8; 512] {
+// Every byte is seven more than the one before it, so that no field is as its neighbour or as what stands sixteen bytes further on.
+fn pattern() -> [u8; 512] {
     let mut image = [0u8; 512];
-    image[0] = 0x30;
-    image[2] = 0x12;
-    image[3] = 0x02;
-    image[4] = 0x04;
-    image[6] = 0x40;
-    image[15] = 7;
-    image[20] = 0x90;
-    image[21] = 1;
-    image[30] = 0x91;
-    image[31] = 1;
-    image[32] = 0x93;
-    image[33] = 1;
-    image[34] = 0x91;
-    image[35] = 1;
-    image[36] = 0x92;
-    image[37] = 1;
-    image[38] = 0x91;
-    image[39] = 1;
-    image[190] = 1;
-    image[509] = 9;
+    let mut i: usize = 0;
+    while i < 512 {
+        image[i] = ((7 * i + 3) % 256) as u8;
+        i += 1;
+    }
     image
 }
 
-fn same_finding(a: Finding, b: Finding) -> bool {
-    if a.code != b.code {
-        return false;
+// The same with a DDR5 identity: a hybrid UDIMM of two 16-bit channels, with 3DS devices of 32 bits. It breaks rules of every code but 5 and 9.
+fn sample() -> [u8; 512] {
+    let mut image = pattern();
+    image[0] = 0x30;
+    image[1] = 0x21;
+    image[2] = 0x12;
+    image[3] = 0x82;
+    image[4] = 0x64;
+    image[5] = 0x45;
+    image[6] = 0x60;
+    image[7] = 0x61;
+    image[234] = 0x29;
+    image[235] = 0x21;
+    image
+}
+
+// How many bytes are as the one that stands `apart` further on.
+fn alike(image: &[u8], apart: usize) -> usize {
+    let mut same: usize = 0;
+    let mut i: usize = 0;
+    while i < image.len() {
+        if apart < image.len() - i {
+            if image[i] == image[i + apart] {
+                if same < 65536 {
+                    same += 1;
+                }
+            }
+        }
+        i += 1;
     }
-    if a.sub != b.sub {
-        return false;
+    same
+}
+
+fn wide8(x: u8) -> u64 {
+    x as u64
+}
+
+fn wide16(x: u16) -> u64 {
+    x as u64
+}
+
+fn bit(b: bool) -> u64 {
+    if b { 1 } else { 0 }
+}
+
+fn two(high: u8, low: u8) -> u64 {
+    (high as u64) * 256 + (low as u64)
+}
+
+fn time(t: Picoseconds) -> u64 {
+    t.picoseconds() as u64
+}
+
+fn pair(p: TimingPair) -> u64 {
+    let t = p.time;
+    let clocks = p.clocks;
+    (t.picoseconds() as u64) * 256 + (clocks.cycles() as u64)
+}
+
+// A refusal in the first three of 23 numbers; the others are 0.
+fn refusal_numbers(why: Refusal) -> [u64; 23] {
+    let mut numbers = [0u64; 23];
+    numbers[0] = why.number() as u64;
+    numbers[1] = why.first() as u64;
+    numbers[2] = why.second() as u64;
+    numbers
+}
+
+// The seventeen fields behind three zeros.
+fn identity_fields(d: IdentityAndBase) -> [u64; 23] {
+    let revision = d.spd_revision;
+    let device = d.device_type;
+    let module = d.module_type;
+    let density = d.density_per_die;
+    let package = d.package_type;
+    let width = d.io_width;
+    let groups = d.bank_groups;
+    let banks = d.banks_per_bank_group;
+    let mut n = [0u64; 23];
+    n[3] = wide16(d.spd_bytes_total);
+    n[4] = two(revision.major, revision.minor);
+    n[5] = wide8(device.code());
+    n[6] = wide8(module.code());
+    n[7] = bit(d.hybrid);
+    n[8] = wide16(density.gigabits());
+    n[9] = wide8(package.code());
+    n[10] = wide8(d.die_count);
+    n[11] = wide8(d.row_address_bits);
+    n[12] = wide8(d.column_address_bits);
+    n[13] = wide16(width.bits());
+    n[14] = wide8(groups.count());
+    n[15] = wide8(banks.count());
+    n[16] = wide8(d.package_ranks_per_channel);
+    n[17] = bit(d.rank_mix_asymmetric);
+    n[18] = wide8(d.channels_per_dimm);
+    n[19] = wide16(d.primary_bus_width_bits);
+    n
+}
+
+fn identity_numbers(answer: IdentityAnswer) -> [u64; 23] {
+    match answer {
+        IdentityAnswer::Decoded(d) => identity_fields(d),
+        IdentityAnswer::Refused(why) => refusal_numbers(why),
     }
+}
+
+// The twenty fields behind three zeros.
+fn timing_fields(t: Timings) -> [u64; 23] {
+    let set = t.supported_cas_latencies;
+    let mut n = [0u64; 23];
+    n[3] = time(t.tckavg_min);
+    n[4] = time(t.tckavg_max);
+    n[5] = set.0;
+    n[6] = time(t.taa);
+    n[7] = time(t.trcd);
+    n[8] = time(t.trp);
+    n[9] = time(t.tras);
+    n[10] = time(t.trc);
+    n[11] = time(t.twr);
+    n[12] = time(t.trfc1);
+    n[13] = time(t.trfc2);
+    n[14] = time(t.trfcsb);
+    n[15] = pair(t.trrd_l);
+    n[16] = pair(t.tccd_l);
+    n[17] = pair(t.tccd_l_wr);
+    n[18] = pair(t.tccd_l_wr2);
+    n[19] = pair(t.tfaw);
+    n[20] = pair(t.twtr_l);
+    n[21] = pair(t.twtr_s);
+    n[22] = pair(t.trtp);
+    n
+}
+
+fn timing_numbers(answer: TimingsAnswer) -> [u64; 23] {
+    match answer {
+        TimingsAnswer::Decoded(t) => timing_fields(t),
+        TimingsAnswer::Refused(why) => refusal_numbers(why),
+    }
+}
+
+// How many of the numbers differ.
+fn unequal(a: [u64; 23], b: [u64; 23]) -> usize {
+    let mut count: usize = 0;
+    let mut i: usize = 0;
+    while i < 23 {
+        if a[i] != b[i] {
+            if count < 23 {
+                count += 1;
+            }
+        }
+        i += 1;
+    }
+    count
+}
+
+fn rank(s: Severity) -> u8 {
+    match s {
+        Severity::Error => 1,
+        Severity::Warning => 2,
+        Severity::Info => 3,
+    }
+}
+
+fn same_numbers(a: Finding, b: Finding) -> bool {
     if a.first != b.first {
         return false;
     }
@@ -80,64 +246,99 @@ fn same_finding(a: Finding, b: Finding) -> bool {
     a.third == b.third
 }
 
-fn same_findings(a: Findings, b: Findings) -> bool {
-    if a.count != b.count {
+fn same_finding(a: Finding, b: Finding) -> bool {
+    if a.code != b.code {
         return false;
     }
-    let left = a.items;
-    let right = b.items;
-    let mut i: usize = 0;
-    while i < 15 {
-        if same_finding(left[i], right[i]) {
-            i += 1;
-        } else {
-            return false;
-        }
+    if a.sub != b.sub {
+        return false;
     }
-    true
-}
-
-fn same_identity(a: IdentityAnswer, b: IdentityAnswer) -> bool {
-    match a {
-        IdentityAnswer::Decoded(c) => match b {
-            IdentityAnswer::Decoded(d) => c.primary_bus_width_bits == d.primary_bus_width_bits,
-            IdentityAnswer::Refused(_) => false,
-        },
-        IdentityAnswer::Refused(v) => match b {
-            IdentityAnswer::Decoded(_) => false,
-            IdentityAnswer::Refused(w) => v.number() == w.number(),
-        },
-    }
-}
-
-fn same_timings(a: TimingsAnswer, b: TimingsAnswer) -> bool {
-    match a {
-        TimingsAnswer::Decoded(t) => match b {
-            TimingsAnswer::Decoded(u) => t.trc.0 == u.trc.0,
-            TimingsAnswer::Refused(_) => false,
-        },
-        TimingsAnswer::Refused(v) => match b {
-            TimingsAnswer::Decoded(_) => false,
-            TimingsAnswer::Refused(w) => v.number() == w.number(),
-        },
-    }
-}
-
-// Whether a state answers as the whole image does.
-fn as_whole(state: Pieces, image: &[u8]) -> bool {
-    if same_identity(
-        state.identity(),
-        decoders::identity::decode_identity_and_base(image),
-    ) {
-        if same_timings(state.timings(), decoders::timing::decode_timings(image)) {
-            let fed = state.lint_image();
-            let whole = rules::lint_image(image);
-            let a = fed.findings;
-            let b = whole.findings;
-            return same_findings(a, b);
-        }
+    let left = a.severity;
+    let right = b.severity;
+    if rank(left) == rank(right) {
+        return same_numbers(a, b);
     }
     false
+}
+
+// The codes of the findings.
+fn codes(found: Findings) {
+    let items = found.items;
+    let mut i: usize = 0;
+    while i < 15 {
+        if i < found.count {
+            let one = items[i];
+            number(one.code as usize);
+        }
+        i += 1;
+    }
+}
+
+// How many of the fifteen places differ; a blank place is as another.
+fn unequal_findings(a: Findings, b: Findings) -> usize {
+    let left = a.items;
+    let right = b.items;
+    let mut count: usize = 0;
+    let mut i: usize = 0;
+    while i < 15 {
+        if same_finding(left[i], right[i]) {} else {
+            if count < 15 {
+                count += 1;
+            }
+        }
+        i += 1;
+    }
+    count
+}
+
+fn whole(image: &[u8]) -> Answers {
+    let linted = rules::lint_image(image);
+    let findings = linted.findings;
+    let identity = identity_numbers(decoders::identity::decode_identity_and_base(image));
+    let timings = timing_numbers(decoders::timing::decode_timings(image));
+    Answers {
+        identity,
+        timings,
+        findings,
+    }
+}
+
+// What a state answers, each question by itself.
+fn asked(state: Pieces) -> Answers {
+    let linted = state.lint_image();
+    let findings = linted.findings;
+    let identity = identity_numbers(state.identity());
+    let timings = timing_numbers(state.timings());
+    Answers {
+        identity,
+        timings,
+        findings,
+    }
+}
+
+fn beside(a: Answers, b: Answers) -> Differing {
+    let a_identity = a.identity;
+    let b_identity = b.identity;
+    let a_timings = a.timings;
+    let b_timings = b.timings;
+    let a_findings = a.findings;
+    let b_findings = b.findings;
+    Differing {
+        identity: unequal(a_identity, b_identity),
+        timings: unequal(a_timings, b_timings),
+        findings: unequal_findings(a_findings, b_findings),
+    }
+}
+
+fn same(a: Answers, b: Answers) -> bool {
+    let d = beside(a, b);
+    if d.identity != 0 {
+        return false;
+    }
+    if d.timings != 0 {
+        return false;
+    }
+    d.findings == 0
 }
 
 fn verdict(same: bool) {
@@ -164,16 +365,54 @@ fn forty(image: &[u8], twice: usize) -> Pieces {
     state
 }
 
+// What the station made of the same bursts: each laid behind the last, so that all that follows lies sixteen bytes too far on.
+fn by_arrival(image: [u8; 512], twice: usize) -> [u8; 512] {
+    let mut shifted = image;
+    let mut i: usize = 16;
+    while i < 512 {
+        if twice < i - 15 {
+            shifted[i] = image[i - 16];
+        }
+        i += 1;
+    }
+    shifted
+}
+
+// The run of the forty certificates: the state answers as the whole image, and the image as it was taken by arrival does not.
+fn certificates(image: [u8; 512], twice: usize) {
+    text(b"forty, the burst at");
+    number(twice);
+    text(b" twice:");
+    let answers = asked(forty(&image, twice));
+    verdict(same(answers, whole(&image)));
+    let shifted = by_arrival(image, twice);
+    let d = beside(answers, whole(&shifted));
+    text(b"by arrival: differ");
+    number(d.identity);
+    text(b" of 17 identity fields,");
+    number(d.timings);
+    text(b" of 20 timings,");
+    number(d.findings);
+    text(b" findings\n");
+}
+
+// Whether an image that is cut in two there gives the answers.
+fn cut_at(image: &[u8], cut: usize, answers: Answers) -> bool
+    requires { ⌜ cut ≤ length (now image) ⌝ }
+{
+    let first = Pieces::fresh().feed(0, &image[0..cut]);
+    let half = first.state;
+    let second = half.feed(cut, &image[cut..]);
+    let state = second.state;
+    same(asked(state), answers)
+}
+
 // How many of the cuts of an image into two give the whole image's answers.
-fn cuts(image: &[u8]) -> usize {
+fn cuts(image: &[u8], answers: Answers) -> usize {
     let mut equal: usize = 0;
     let mut cut: usize = 0;
     while cut <= image.len() {
-        let first = Pieces::fresh().feed(0, &image[0..cut]);
-        let half = first.state;
-        let second = half.feed(cut, &image[cut..]);
-        let state = second.state;
-        if as_whole(state, image) {
+        if cut_at(image, cut, answers) {
             if equal < 65536 {
                 equal += 1;
             }
@@ -212,8 +451,8 @@ fn rest(first: Pieces, image: &[u8]) {
     }
     let early = told(first.feed(32, &image[32..48]));
     let second = told(early.feed(16, &image[16..32]));
-    let whole = told(second.feed(32, &image[32..512]));
-    verdict(as_whole(whole, image));
+    let last = told(second.feed(32, &image[32..512]));
+    verdict(same(asked(last), whole(image)));
 }
 
 // Up to 2,048 bytes: there an empty piece is taken, and one byte is not.
@@ -232,7 +471,7 @@ fn ends(full: Pieces, image: &[u8]) {
     }
     let empty = told(full.feed(2048, &image[0..0]));
     let past = told(empty.feed(2048, &image[0..1]));
-    verdict(as_whole(past, image));
+    verdict(same(asked(past), whole(image)));
 }
 
 // An image that is still short answers as a short image.
@@ -243,15 +482,27 @@ fn short(image: &[u8]) {
     }
     let part = &image[0..100];
     let a = told(Pieces::fresh().feed(0, part));
-    verdict(as_whole(a, part));
+    verdict(same(asked(a), whole(part)));
+}
+
+// What the image is like: its findings, and how many bytes would hide a shift.
+fn about(image: &[u8]) {
+    let linted = rules::lint_image(image);
+    let found = linted.findings;
+    text(b"image: codes");
+    codes(found);
+    text(b", neighbours alike");
+    number(alike(image, 1));
+    text(b", sixteen apart alike");
+    number(alike(image, 16));
+    text(b"\n");
 }
 
 fn run(image: &[u8]) {
+    about(image);
     bench(image);
-    text(b"forty");
-    verdict(as_whole(forty(image, 64), image));
     text(b"cuts");
-    number(cuts(image));
+    number(cuts(image, whole(image)));
     text(b"\n");
     order(image);
     longest(image);
@@ -261,4 +512,6 @@ fn run(image: &[u8]) {
 fn main() {
     let bytes = sample();
     run(&bytes);
+    certificates(bytes, 0);
+    certificates(bytes, 64);
 }

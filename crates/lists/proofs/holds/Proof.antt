@@ -1,22 +1,21 @@
--- `feeding::same_findings` is safe and ends: the place is one of the fifteen. Assumes nothing.
+-- `lists::holds` is safe and ends: the place is one of the fifteen. Assumes nothing.
 use Prim.Native.Nat.{_-_, _≤_}
 use borrow.Author.Needs.{needs}
-use Rattle.feeding.proofs.same_findings.Statement.{statement}
-use Rattle.feeding.proofs.same_findings.Tie as tie
+use Rattle.lists.proofs.holds.Statement.{statement}
+use Rattle.lists.proofs.holds.Tie as tie
 
 abbrev Inv-loop : tie.InvT-loop
-Inv-loop left right i₀ i = i ≤ 15
+Inv-loop found list items i₀ i = i ≤ 15
 
 abbrev μ-loop : tie.MeasureT-loop
-μ-loop left right i₀ i = 15 - i
+μ-loop found list items i₀ i = 15 - i
 
-pub same-findings-spec : {M : Type 1} → statement M
-same-findings-spec =
+pub holds-spec : {M : Type 1} → statement M
+holds-spec =
     tie.close
     (tie.spec
     Inv-loop
     μ-loop
-    (λ c. search needs)
     (λ c. search needs)
     (λ c. search needs)
     (λ c. search needs)
