@@ -1,4 +1,4 @@
--- Laws of `over`, the bytes of a piece laid over those that are kept: it recurses on both, and so does each law. Assumes nothing.
+-- Laws of `overlaid`, the bytes of a piece laid over those that are kept: it recurses on both, and so does each law. Assumes nothing.
 use Prim.Native.Nat.{ℕ, zero, suc, _+_, _-_, min, _≤_, _<_}
 use mathlib.Core.Path.{_≡_, refl, sym, ap}
 use mathlib.Core.List.{List, [], _∷_}
@@ -9,7 +9,8 @@ use lib.Seq.{take-all}
 use lib.Dec.{leb}
 use borrow.Author.Tests.{leb-true, leb-false}
 use Rattle.reading.proofs.Picked.{by-test}
-use Rattle.pieces.specs.Fed.{overlaid, withEight}
+use Rattle.pieces.specs.Fed.{overlaid}
+use Rattle.pieces.specs.Laying.{withEight}
 
 -- nothing laid over
 pub over-none : (k : List ℕ) (at : ℕ) → overlaid k at [] ≡ k
@@ -51,6 +52,25 @@ over-eight k at p j e f h =
     (omega arith) (omega arith) (omega arith))
     (omega arith) (omega arith) (omega arith))
     (omega arith) (omega arith) (omega arith)
+
+-- bytes laid over fewer hide them
+pub over-hides : (k : List ℕ) (at : ℕ) (p q : List ℕ) → length p ≤ length q → overlaid (overlaid k at p) at q ≡ overlaid k at q
+unfolding overlaid
+over-hides [] at p q h = refl
+over-hides (x ∷ k) (suc at) p q h = ap (λ (l : List ℕ). x ∷ l) (over-hides k at p q h)
+over-hides (x ∷ k) zero [] q h = refl
+over-hides (x ∷ k) zero (y ∷ p) [] h = absurd (not-suc-le-zero h)
+over-hides (x ∷ k) zero (y ∷ p) (z ∷ q) h = ap (λ (l : List ℕ). z ∷ l) (over-hides k zero p q (le-of-suc-le-suc h))
+
+-- the front of what was laid, laid once more
+pub over-again : (k : List ℕ) (at : ℕ) (p : List ℕ) (i : ℕ) → overlaid (overlaid k at p) at (take i p) ≡ overlaid k at p
+unfolding overlaid
+over-again [] at p i = refl
+over-again (x ∷ k) (suc at) p i = ap (λ (l : List ℕ). x ∷ l) (over-again k at p i)
+over-again (x ∷ k) zero [] zero = refl
+over-again (x ∷ k) zero [] (suc i) = refl
+over-again (x ∷ k) zero (y ∷ p) zero = refl
+over-again (x ∷ k) zero (y ∷ p) (suc i) = ap (λ (l : List ℕ). y ∷ l) (over-again k zero p i)
 
 -- what would stand past k's end does not matter
 pub over-cut : (k : List ℕ) (at : ℕ) (p : List ℕ) (j : ℕ) → length k ≤ at + j → overlaid k at (take j p) ≡ overlaid k at p

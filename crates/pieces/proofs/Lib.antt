@@ -1,4 +1,5 @@
 pub mod Laws
+pub mod Accepting
 pub mod Holding
 pub mod Running
 pub mod Asking

@@ -26,14 +26,14 @@ ran (c ∷ cs) {s} {b} h = by-test (takes (length b) c)
     let r = ran cs (taken h c e) in
     record {
       holds = rw e (rw (append-assoc, length-append) at (r .holds));
-      says = rw (e, answered h c) (ap (λ (l : List (Said ℕ)). answerAt (length b) c ∷ l) (rw length-append at (r .says)));
+      says = rw e (λ i. answered h c i ∷ (rw length-append at (r .says)) i);
     })
     (λ e.
     let r = ran cs h in
     let same = refused s c (rw (h .count) e) in
     record {
       holds = rw (e, same) (r .holds);
-      says = rw (e, answered h c, same) (ap (λ (l : List (Said ℕ)). answerAt (length b) c ∷ l) (r .says));
+      says = rw (e, same) (λ i. answered h c i ∷ r .says i);
     })
 
 -- the run theorem, for any list of calls

@@ -2,10 +2,10 @@
 use Prim.Native.Nat.{ℕ, zero, suc, _+_, _≤_}
 use mathlib.Core.Path.{_≡_}
 use mathlib.Core.List.{List, [], _∷_}
-use lib.ListN.{length, take, getD, set, replicate}
+use lib.ListN.{length, take, replicate}
 use lib.Dec.{eqb, leb}
 use Rattle.reading.specs.Pick.{pick}
-use Rattle.reading.specs.Said.{Said, gives, refuses, refused, told}
+use Rattle.reading.specs.Said.{Said, gives, refuses, refused, onward, told}
 use Rattle.pieces.specs.declared.Pieces.{Pieces}
 use Rattle.pieces.specs.declared.FeedAnswer.{FeedAnswer}
 use Rattle.pieces.specs.declared.FeedAnswer.the-variants as feed
@@ -28,12 +28,6 @@ overlaid (k ∷ ks) (suc at) p = k ∷ overlaid ks at p
 overlaid (k ∷ ks) zero [] = k ∷ ks
 overlaid (k ∷ ks) zero (x ∷ p) = x ∷ overlaid ks zero p
 
--- eight bytes of p from place i on, stored in k from place `at` on; a private function promises it
-abbrev pub withEight : List ℕ → ℕ → List ℕ → ℕ → List ℕ
-withEight k at p i =
-    set (set (set (set (set (set (set (set k at (getD p i 0)) (at + 1) (getD p (i + 1) 0)) (at + 2) (getD p (i + 2) 0)) (at + 3) (getD p (i + 3) 0))
-    (at + 4) (getD p (i + 4) 0)) (at + 5) (getD p (i + 5) 0)) (at + 6) (getD p (i + 6) 0)) (at + 7) (getD p (i + 7) 0)
-
 -- a state and what was answered
 pub record Feeding : Type 0 where
   pub state : Pieces
@@ -46,17 +40,21 @@ feedSaid (feed.Refused why) = refuses (told why)
 abbrev pub fedSaid : Fed → Feeding
 fedSaid r = record { state = r .state; answer = feedSaid (r .answer) }
 
--- taken where its offset is the count taken and the total stays within the longest image; a refused state stays as it was
+-- the rule for a piece of so many bytes at an offset, after so many bytes taken: the offset is looked at before the length
+abbrev pub acceptedAt : (taken offset len : ℕ) → Said ℕ
+acceptedAt taken offset len =
+    pick (eqb offset taken)
+    (pick (leb (taken + len) longest) (gives (taken + len)) (refused 6 0 0))
+    (refused 5 taken 0)
+
+-- the state after an answer: with the piece, or as it was
+abbrev pub stateAfter : Pieces → List ℕ → Said ℕ → Pieces
+stateAfter s piece answer = onward (λ t. s) answer (λ total. record { kept = overlaid (s .kept) (s .taken) piece; taken = total })
+
 abbrev pub fedBy : Pieces → (offset : ℕ) → List ℕ → Feeding
 fedBy s offset piece =
-    pick (eqb offset (s .taken))
-    (pick (leb (s .taken + length piece) longest)
-    (record {
-      state = record { kept = overlaid (s .kept) (s .taken) piece; taken = s .taken + length piece };
-      answer = gives (s .taken + length piece);
-    })
-    (record { state = s; answer = refused 6 0 0 }))
-    (record { state = s; answer = refused 5 (s .taken) 0 })
+    let answer = acceptedAt (s .taken) offset (length piece) in
+    record { state = stateAfter s piece answer; answer = answer }
 
 -- what is kept of the bytes that have arrived: all of them while they are few
 abbrev pub keptOf : Pieces → List ℕ

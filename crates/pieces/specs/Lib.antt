@@ -1,2 +1,3 @@
 pub mod Fed
 pub mod Run
+pub mod Laying

@@ -1,21 +1,23 @@
 -- A run of calls of `feed`. Which of its pieces are taken, and what each call is answered, is said of the calls alone. Assumes nothing.
 use Prim.Native.Nat.{ℕ, _+_}
-use mathlib.Core.Bool.{Bool}
+use mathlib.Core.Bool.{Bool, true, false}
 use mathlib.Core.List.{List, [], _∷_, _++_}
 use lib.ListN.{length}
-use lib.Dec.{eqb, leb}
-use Rattle.reading.specs.Pick.{pick, and}
-use Rattle.reading.specs.Said.{Said, gives, refused}
-use Rattle.pieces.specs.Fed.{freshPieces, fedBy, longest}
+use Rattle.reading.specs.Pick.{pick}
+use Rattle.reading.specs.Said.{Said, onward}
+use Rattle.pieces.specs.Fed.{freshPieces, acceptedAt, fedBy}
 use Rattle.pieces.specs.declared.Pieces.{Pieces}
 
 pub record Call : Type 0 where
   pub offset : ℕ
   pub piece : List ℕ
 
--- after n bytes this call's piece is taken: its offset is n, and the total stays within 2,048
+-- the answer to a call after n bytes, and whether its piece is taken
+abbrev pub answerAt : ℕ → Call → Said ℕ
+answerAt n c = acceptedAt n (c .offset) (length (c .piece))
+
 abbrev pub takes : ℕ → Call → Bool
-takes n c = and (eqb (c .offset) n) (leb (n + length (c .piece)) longest)
+takes n c = onward (λ t. false) (answerAt n c) (λ total. true)
 
 -- the pieces that are taken of a run of calls, after n bytes
 unfoldable pub takenFrom : ℕ → List Call → List (List ℕ)
@@ -38,13 +40,6 @@ runFrom s (c ∷ cs) = runFrom (fedBy s (c .offset) (c .piece) .state) cs
 
 abbrev pub run : List Call → Pieces
 run cs = runFrom freshPieces cs
-
--- the answer to a call after n bytes: the offset is looked at before the length
-abbrev pub answerAt : ℕ → Call → Said ℕ
-answerAt n c =
-    pick (eqb (c .offset) n)
-    (pick (leb (n + length (c .piece)) longest) (gives (n + length (c .piece))) (refused 6 0 0))
-    (refused 5 n 0)
 
 -- the answers to a run of calls after n bytes
 unfoldable pub answersFrom : ℕ → List Call → List (Said ℕ)

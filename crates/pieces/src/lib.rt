@@ -1,4 +1,4 @@
-// An image of at most 2,048 bytes that arrives in pieces, each with its offset. The state goes in by value and comes back.
+// An image that arrives in pieces, each with its offset. The state goes in by value and comes back.
 // A piece is taken where its offset is the count taken, so a burst that comes twice can shift nothing.
 ghost use mathlib.Core.Path.{_≡_};
 ghost use Prim.Native.Nat.{_+_, _-_, min, _≤_};
@@ -8,7 +8,8 @@ ghost use Rattle.decoders.specs.Answers.{identitySaid, timingsSaid};
 ghost use Rattle.decoders.specs.Identity.{identityOf};
 ghost use Rattle.decoders.specs.Timing.{timingsOf};
 ghost use Rattle.rules.specs.Lint.{lintSaid, lintOf, lintAnswerSaid, lintAnswerOf, findingsOf};
-ghost use Rattle.pieces.specs.Fed.{freshPieces, overlaid, withEight, fedSaid, fedBy, keptOf};
+ghost use Rattle.pieces.specs.Fed.{freshPieces, overlaid, feedSaid, fedSaid, acceptedAt, fedBy, keptOf};
+ghost use Rattle.pieces.specs.Laying.{withEight};
 use decoders::identity::IdentityAnswer;
 use decoders::timing::TimingsAnswer;
 use findings::Finding;
@@ -17,7 +18,7 @@ use rules::LintAnswer;
 use rules::Linted;
 
 // The most bytes that an image has.
-const LONGEST: usize = 2048;
+pub const LONGEST: usize = 2048;
 
 // How many of its first bytes are kept: all that any definition looks at.
 pub const KEPT: usize = 510;
@@ -51,30 +52,20 @@ impl Pieces {
         }
     }
 
-    // Takes the piece where its offset is the count taken and the total stays within 2,048. The offset is looked at first.
+    // Takes the piece where `accept` does, and else stays as it was.
     pub fn feed(mut self, offset: usize, piece: &[u8]) -> Fed
         ensures { λ r. ⌜ fedSaid r ≡ fedBy self offset (now (piece .entry)) ⌝ }
     {
         let taken = self.taken;
-        if offset != taken {
-            return Fed {
-                state: self,
-                answer: FeedAnswer::Refused(Refusal::WrongOffset(taken)),
-            };
-        }
-        if LONGEST < taken {
-            return Fed {
-                state: self,
-                answer: FeedAnswer::Refused(Refusal::TooLong),
-            };
-        }
-        if LONGEST - taken < piece.len() {
-            return Fed {
-                state: self,
-                answer: FeedAnswer::Refused(Refusal::TooLong),
-            };
-        }
-        let total = taken + piece.len();
+        let total = match accept(taken, offset, piece.len()) {
+            FeedAnswer::Taken(total) => total,
+            FeedAnswer::Refused(why) => {
+                return Fed {
+                    state: self,
+                    answer: FeedAnswer::Refused(why),
+                };
+            }
+        };
         lay_kept(&mut self.kept, taken, piece);
         self.taken = total;
         Fed {
@@ -123,6 +114,22 @@ impl Pieces {
     }
 }
 
+// The rule: a piece of `len` bytes at `offset`, after `taken` bytes. The offset is looked at before the length.
+pub fn accept(taken: usize, offset: usize, len: usize) -> FeedAnswer
+    ensures { λ r. ⌜ feedSaid r ≡ acceptedAt taken offset len ⌝ }
+{
+    if offset != taken {
+        return FeedAnswer::Refused(Refusal::WrongOffset(taken));
+    }
+    if LONGEST < taken {
+        return FeedAnswer::Refused(Refusal::TooLong);
+    }
+    if LONGEST - taken < len {
+        return FeedAnswer::Refused(Refusal::TooLong);
+    }
+    FeedAnswer::Taken(taken + len)
+}
+
 // How many bytes of a piece of `len` bytes at `at` are kept of `most`.
 fn room(at: usize, len: usize, most: usize) -> usize
     ensures { λ r. ⌜ r ≡ min len (most - at) ⌝ }
@@ -139,23 +146,39 @@ pub fn lay(kept: &mut [u8], at: usize, piece: &[u8])
     ensures { λ _. ⌜ now (kept .exit) ≡ overlaid (now (kept .entry)) at (now (piece .entry)) ⌝ }
 {
     if piece.len() != 16 {
-        return lay_bytes(kept, at, piece);
+        return lay_part(kept, at, piece);
     }
     if kept.len() < 16 {
-        return lay_bytes(kept, at, piece);
+        return lay_part(kept, at, piece);
     }
     if kept.len() - 16 < at {
-        return lay_bytes(kept, at, piece);
+        return lay_part(kept, at, piece);
     }
     lay_eight(kept, at, piece, 0);
     lay_eight(kept, at + 8, piece, 8);
 }
 
-// Byte by byte, as many as there is room for.
-fn lay_bytes(kept: &mut [u8], at: usize, piece: &[u8])
+// As many bytes as there is room for: eight to sixteen as two times eight, which may overlap, and else byte by byte.
+fn lay_part(kept: &mut [u8], at: usize, piece: &[u8])
     ensures { λ _. ⌜ now (kept .exit) ≡ overlaid (now (kept .entry)) at (now (piece .entry)) ⌝ }
 {
     let n = room(at, piece.len(), kept.len());
+    if n < 8 {
+        return lay_bytes(kept, at, piece, n);
+    }
+    if 16 < n {
+        return lay_bytes(kept, at, piece, n);
+    }
+    let i = n - 8;
+    lay_eight(kept, at, piece, 0);
+    lay_eight(kept, at + i, piece, i);
+}
+
+// The first `n` bytes of `piece`, one by one.
+fn lay_bytes(kept: &mut [u8], at: usize, piece: &[u8], n: usize)
+    requires { ⌜ n ≡ min (length (now piece)) (length (now kept) - at) ⌝ }
+    ensures { λ _. ⌜ now (kept .exit) ≡ overlaid (now (kept .entry)) at (now (piece .entry)) ⌝ }
+{
     let mut i = 0;
     while i < n {
         kept[at + i] = piece[i];

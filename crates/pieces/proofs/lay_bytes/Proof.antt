@@ -1,4 +1,4 @@
--- `pieces::lay_bytes` meets its contract. The invariant of its loop: i is at most the room, and `kept` is what it was with the first i bytes of
+-- `pieces::lay_bytes` meets its contract. The invariant of its loop: i is at most n, and `kept` is what it was with the first i bytes of
 -- the piece laid over it. At the end the rest of the piece would change nothing. Assumes nothing.
 use Prim.Native.Nat.{_-_, _<_, _≤_}
 use mathlib.Core.Path.{_≡_, refl, sym, _∙_}
@@ -23,7 +23,6 @@ lay-bytes-spec =
     (tie.spec
     Inv-loop
     μ-loop
-    (λ c κs. search needs)
     (λ c. (search needs, refl, sym (over-none _ _)))
     (λ c. search needs)
     (λ c. search needs)
@@ -32,11 +31,11 @@ lay-bytes-spec =
     (λ c. search needs)
     (λ c.
     let l = c .before .before .loop in
-    let a = c .before .before .before .before .before .before .args in
+    let a = c .before .before .before .args in
     let h : l .i < length (a .piece .now) = omega arith in
     (search needs, search needs, rw (l .inv .2, add-one) (over-more _ _ _ _ h)))
     (λ c. search needs)
     (λ c.
-    let a = c .before .before .before .before .before .args in
+    let a = c .before .before .args in
     let l = c .before .loop in
     l .inv .2 ∙ over-end (a .kept .now) (a .at) (a .piece .now) (l .i) (omega arith)))
