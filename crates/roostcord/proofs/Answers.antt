@@ -9,9 +9,10 @@ use borrow.Author.Tests.{lt-ltb, le-ltb}
 use Rattle.reading.specs.Pick.{pick}
 use Rattle.reading.specs.Said.{Told, Said, gives, refuses, refused}
 use Rattle.reading.specs.Lent.{laid}
+use Rattle.report.specs.Write.{lintReportOf, lintReportAfter}
 use Rattle.roostcord.specs.Word.{wordOf}
 use Rattle.roostcord.specs.Numbers.{listedIn, listAfter}
-use Rattle.roostcord.specs.State.{short, asked, arrivedIn}
+use Rattle.roostcord.specs.State.{stateSize, short, asked, arrivedIn}
 
 -- a decoder's answer r that says x, and the case that a match found in it
 pub found : {A E : Type 0} (say : E → Said A) {r e : E} {x : Said A} → say r ≡ x → r ≡ e → x ≡ say e
@@ -42,13 +43,16 @@ pub record Question : Type 0 where
 abbrev pub listing : (need : ℕ) → (List ℕ → Said (List ℕ)) → List ℕ → Question
 listing need numbers out = record { answer = λ s. listedIn need (numbers s) (length out); after = λ s. listAfter need (numbers s) out }
 
+abbrev pub reporting : List ℕ → Question
+reporting out = record { answer = λ s. lintReportOf s (length out); after = λ s. lintReportAfter s out }
+
 -- put to a state, it is answered for what has arrived
 module _ (q : Question) (s lent : List ℕ) where
   abbrev Asked : ℤ → List ℕ → Type 0
   Asked z later = (z ≡ wordOf (asked s (q .answer (arrivedIn s)))) × (later ≡ pick (short s) lent (q .after (arrivedIn s)))
 
-  pub no-state : length s < 512 → {z : ℤ} → z ≡ wordOf (refused 4 0 0) → Asked z lent
-  no-state h e = rw (lt-ltb (length s) 512 h) (e, refl)
+  pub no-state : length s < stateSize → {z : ℤ} → z ≡ wordOf (refused 4 0 0) → Asked z lent
+  no-state h e = rw (lt-ltb (length s) stateSize h) (e, refl)
 
-  pub of-state : 512 ≤ length s → {a : List ℕ} → a ≡ arrivedIn s → {z : ℤ} {later : List ℕ} → z ≡ wordOf (q .answer a) → later ≡ q .after a → Asked z later
-  of-state h p e f = rw (le-ltb (length s) 512 h, ← p) (e, f)
+  pub of-state : stateSize ≤ length s → {a : List ℕ} → a ≡ arrivedIn s → {z : ℤ} {later : List ℕ} → z ≡ wordOf (q .answer a) → later ≡ q .after a → Asked z later
+  of-state h p e f = rw (le-ltb (length s) stateSize h, ← p) (e, f)

@@ -22,10 +22,10 @@ use Rattle.rules.specs.Table.{allIn}
 use Rattle.report.specs.Form.{restOf, findingsIn}
 use Rattle.report.specs.Read.{lengthIn, contentOf}
 use Rattle.report.specs.Write.{lintReportOf}
-use Rattle.pieces.specs.Fed.{Feeding, fedBy, longest}
+use Rattle.pieces.specs.Fed.{keptBytes, acceptedAt, longest}
 use Rattle.roostcord.specs.Numbers.{identityList, timingsList, casNumbers, clocksList, reportList, listedIn}
 use Rattle.roostcord.specs.Word.{refusalWord}
-use Rattle.roostcord.specs.State.{short, countIn, stateIn, arrivedIn, asked, freshIn, feedIn, takenIn}
+use Rattle.roostcord.specs.State.{short, countIn, arrivedIn, asked, freshIn, feedIn, takenIn}
 use Rattle.roostcord.proofs.Once.{InBits, word-once}
 
 -- a refusal, if it is one, has its values within their bits
@@ -173,16 +173,16 @@ module _ (s : List ℕ) where
 
   pub arrived-bytes : AllBytes s → AllBytes (arrivedIn s)
   arrived-bytes h =
-      bytes-take (countIn s) (take 510 (drop 2 s))
-      (bytes-take 510 (drop 2 s) (λ i. rw (getD-drop 2 s i 0) (h (2 + i))))
+      bytes-take (countIn s) (take keptBytes (drop 2 s))
+      (bytes-take keptBytes (drop 2 s) (λ i. rw (getD-drop 2 s i 0) (h (2 + i))))
 
   pub feed-bits : (offset : ℕ) (piece : List ℕ) → AllBytes s → Fits (feedIn s offset piece)
   unfolding feedIn
   feed-bits offset piece h =
       let few : countIn s < 4096 = omega (arith, h 0) in
-      asked-bits (fedBy (stateIn s) offset piece .answer)
-      (either (λ (f : Feeding). Fits (f .answer)) (eqb offset (countIn s))
-      (either (λ (f : Feeding). Fits (f .answer)) (leb (countIn s + length piece) longest) tt plain)
+      asked-bits (acceptedAt (countIn s) offset (length piece))
+      (either Fits (eqb offset (countIn s))
+      (either Fits (leb (countIn s + length piece) longest) tt plain)
       (few, omega arith))
 
   module _ (room : ℕ) where

@@ -1,23 +1,27 @@
--- The state in lent bytes is tied to the state by value. A count that feeding leads to is at most 2,048, so its two bytes hold it, and the
--- bytes after a call are the state after that call; what is known of a run of calls by value then holds of the bytes. Assumes nothing.
+-- The state in lent bytes is tied to the state by value. A count that feeding leads to is within the longest image, so its two bytes hold it,
+-- and the bytes after a call are the state after that call; what is known of a run of calls by value then holds of the bytes. Assumes nothing.
 use Prim.Native.Nat.{ℕ, zero, suc, _+_, _*_, _/_, _%_, _<_, _≤_}
 use mathlib.Core.Path.{_≡_, refl, ap, sym, subst, _∙_}
-use mathlib.Core.List.{List, [], _∷_, _++_}
+use mathlib.Core.Bool.{false}
+use mathlib.Core.List.{List, [], _∷_, _++_, map}
 use native.Mathlib.Omega.{arith}
 use lib.ListN.{length, take, drop, length-append, length-take, length-drop}
 use lib.Seq.{take-at, drop-at}
-use lib.Dec.{eqb, leb}
-use borrow.Author.Tests.{le-ltb, leb-true, ltb-false}
-use Rattle.reading.specs.Said.{Told, gives, refuses}
+use borrow.Author.Tests.{le-ltb, ltb-false}
+use Rattle.reading.specs.Pick.{pick}
+use Rattle.reading.specs.Said.{Told, Said, gives, refuses}
 use Rattle.reading.proofs.Picked.{by-test}
 use Rattle.pieces.specs.declared.Pieces.{Pieces}
-use Rattle.pieces.specs.Fed.{overlaid, Feeding, fedBy, freshPieces, longest, keptOf, Holds}
-use Rattle.pieces.specs.Run.{Call, runFrom, run, image}
-use Rattle.pieces.proofs.Running.{run-holds}
+use Rattle.pieces.specs.Fed.{keptBytes, longest, overlaid, Feeding, acceptedAt, fedBy, freshPieces, keptOf, Holds}
+use Rattle.pieces.specs.Run.{Call, runFrom, run, image, answersFrom, saidFrom}
+use Rattle.pieces.proofs.Accepting.{given, by-answer}
+use Rattle.pieces.proofs.Running.{run-holds, run-says}
 use Rattle.pieces.proofs.Asking.{run-identity, run-timings, run-findings}
 use Rattle.report.specs.Write.{lintReportOf, lintReportAfter}
+use Rattle.roostcord.specs.Word.{wordOf}
 use Rattle.roostcord.specs.Numbers.{identityList, timingsList, casNumbers, clocksList}
-use Rattle.roostcord.specs.State.{short, countIn, stateIn, stateBytes, arrivedIn, freshAfter, feedIn, feedAfter, fedBytes}
+use Rattle.roostcord.specs.State.{stateSize, short, countIn, stateIn, stateBytes, arrivedIn, asked, freshAfter, feedIn, feedAfter, takenIn, fedBytes, saidBytes}
+use Rattle.roostcord.proofs.Answers.{Question, listing, reporting}
 
 length-over : (k : List ℕ) (at : ℕ) (p : List ℕ) → length (overlaid k at p) ≡ length k
 unfolding overlaid
@@ -27,99 +31,125 @@ length-over (x ∷ k) zero [] = refl
 length-over (x ∷ k) zero (y ∷ p) = ap suc (length-over k zero p)
 
 -- the bytes of a state whose count has twelve bits, with anything behind them: they are that state, and the rest stays
-module _ (p : Pieces) (rest : List ℕ) (k : length (p .kept) ≡ 510) where
+module _ (p : Pieces) (rest : List ℕ) (k : length (p .kept) ≡ keptBytes) where
   back : p .taken < 4096 → stateIn (stateBytes p ++ rest) ≡ p
   back h =
       let n : p .taken % 256 + 256 * (p .taken / 256 % 16) ≡ p .taken = omega arith in
-      λ i. record { kept = take-at (p .kept) rest 510 k i; taken = n i }
+      λ i. record { kept = take-at (p .kept) rest keptBytes k i; taken = n i }
 
-  behind : drop 512 (stateBytes p ++ rest) ≡ rest
-  behind = drop-at (p .kept) rest 510 k
+  behind : drop stateSize (stateBytes p ++ rest) ≡ rest
+  behind = drop-at (p .kept) rest keptBytes k
 
-  long : 512 ≤ length (stateBytes p ++ rest)
+  long : stateSize ≤ length (stateBytes p ++ rest)
   long = omega (arith, length-append (p .kept) rest)
 
-module _ (s : List ℕ) (h : 512 ≤ length s) where
+module _ (s : List ℕ) (h : stateSize ≤ length s) where
   pub fresh-tied : stateIn (freshAfter s) ≡ freshPieces
   unfolding freshAfter
-  fresh-tied = rw (le-ltb (length s) 512 h) (back freshPieces (drop 512 s) refl (omega arith))
+  fresh-tied = rw (le-ltb (length s) stateSize h) (back freshPieces (drop stateSize s) refl (omega arith))
 
-  pub fresh-behind : drop 512 (freshAfter s) ≡ drop 512 s
+  pub fresh-behind : drop stateSize (freshAfter s) ≡ drop stateSize s
   unfolding freshAfter
-  fresh-behind = rw (le-ltb (length s) 512 h) (behind freshPieces (drop 512 s) refl)
+  fresh-behind = rw (le-ltb (length s) stateSize h) (behind freshPieces (drop stateSize s) refl)
 
-  fresh-long : 512 ≤ length (freshAfter s)
+  fresh-long : stateSize ≤ length (freshAfter s)
   unfolding freshAfter
-  fresh-long = rw (le-ltb (length s) 512 h) (long freshPieces (drop 512 s) refl)
+  fresh-long = rw (le-ltb (length s) stateSize h) (long freshPieces (drop stateSize s) refl)
 
   module _ (offset : ℕ) (piece : List ℕ) where
-    abbrev later : Pieces
-    later = record { kept = overlaid (take 510 (drop 2 s)) (countIn s) piece; taken = countIn s + length piece }
+    abbrev later : (total : ℕ) → Pieces
+    later total = record { kept = overlaid (take keptBytes (drop 2 s)) (countIn s) piece; taken = total }
 
-    kept-all : length (later .kept) ≡ 510
-    kept-all = length-over (take 510 (drop 2 s)) (countIn s) piece ∙ simp (length-take, length-drop) (omega arith)
+    kept-all : length (overlaid (take keptBytes (drop 2 s)) (countIn s) piece) ≡ keptBytes
+    kept-all = length-over (take keptBytes (drop 2 s)) (countIn s) piece ∙ simp (length-take, length-drop) (omega arith)
 
     -- what holds where a piece is taken, and where it is refused, holds of feeding
     by-feeding : (P : List ℕ → Feeding → Type 0)
-        → (later .taken ≤ longest → P (stateBytes later ++ drop 512 s) (record { state = later; answer = gives (later .taken) }))
+        → ((n : ℕ) → n ≤ longest → P (stateBytes (later n) ++ drop stateSize s) (record { state = later n; answer = gives n }))
         → ((t : Told) → P s (record { state = stateIn s; answer = refuses t }))
         → P (feedAfter s offset piece) (fedBy (stateIn s) offset piece)
     unfolding feedAfter
-    by-feeding P took kept = by-test (eqb offset (countIn s))
-        (λ e. by-test (leb (later .taken) longest)
-        (λ f. rw (le-ltb (length s) 512 h, e, f) (took (leb-true (later .taken) longest f)))
-        (λ f. rw (le-ltb (length s) 512 h, e, f) (kept _)))
-        (λ e. rw (le-ltb (length s) 512 h, e) (kept _))
+    by-feeding P took kept = by-answer (acceptedAt (countIn s) offset (length piece))
+        (λ n e. rw (le-ltb (length s) stateSize h, e) (took n (given (countIn s) offset (length piece) e .1)))
+        (λ t e. rw (le-ltb (length s) stateSize h, e) (kept t))
 
     -- THE TIE: the bytes that are left are the state that feeding gives
     pub fed-tied : stateIn (feedAfter s offset piece) ≡ fedBy (stateIn s) offset piece .state
-    fed-tied = by-feeding (λ l f. stateIn l ≡ f .state) (λ n. back later (drop 512 s) kept-all (omega arith)) (λ t. refl)
+    fed-tied = by-feeding (λ l f. stateIn l ≡ f .state) (λ n m. back (later n) (drop stateSize s) kept-all (omega arith)) (λ t. refl)
 
     pub fed-answer : feedIn s offset piece ≡ fedBy (stateIn s) offset piece .answer
     unfolding feedIn
-    fed-answer = rw (le-ltb (length s) 512 h)
+    fed-answer = rw (le-ltb (length s) stateSize h)
 
-    pub fed-behind : drop 512 (feedAfter s offset piece) ≡ drop 512 s
-    fed-behind = by-feeding (λ l f. drop 512 l ≡ drop 512 s) (λ n. behind later (drop 512 s) kept-all) (λ t. refl)
+    pub fed-behind : drop stateSize (feedAfter s offset piece) ≡ drop stateSize s
+    fed-behind = by-feeding (λ l f. drop stateSize l ≡ drop stateSize s) (λ n m. behind (later n) (drop stateSize s) kept-all) (λ t. refl)
 
-    fed-long : 512 ≤ length (feedAfter s offset piece)
-    fed-long = by-feeding (λ l f. 512 ≤ length l) (λ n. long later (drop 512 s) kept-all) (λ t. h)
+    fed-long : stateSize ≤ length (feedAfter s offset piece)
+    fed-long = by-feeding (λ l f. stateSize ≤ length l) (λ n m. long (later n) (drop stateSize s) kept-all) (λ t. h)
 
     kept-refused : (t : Told) → fedBy (stateIn s) offset piece .answer ≡ refuses t → feedAfter s offset piece ≡ s
-    kept-refused = by-feeding (λ l f. (t : Told) → f .answer ≡ refuses t → l ≡ s) (λ n t e. absurd (let z : _≡_ {A = ℕ} 0 1 = cc in omega arith)) (λ u t e. refl)
+    kept-refused = by-feeding (λ l f. (t : Told) → f .answer ≡ refuses t → l ≡ s) (λ n m t e. absurd (let z : _≡_ {A = ℕ} 0 1 = cc in omega arith)) (λ u t e. refl)
 
 -- a call that is refused leaves the bytes as they were, however many they are
 pub fed-refused : (s : List ℕ) (offset : ℕ) (piece : List ℕ) (t : Told) → feedIn s offset piece ≡ refuses t → feedAfter s offset piece ≡ s
 unfolding feedIn feedAfter
 fed-refused s offset piece t e = by-test (short s)
     (λ f. rw f)
-    (λ f. kept-refused s (ltb-false (length s) 512 f) offset piece t (rw f at e))
+    (λ f. kept-refused s (ltb-false (length s) stateSize f) offset piece t (rw f at e))
 
-fed-from : (cs : List Call) (s : List ℕ) → 512 ≤ length s → (stateIn (fedBytes s cs) ≡ runFrom (stateIn s) cs) × (drop 512 (fedBytes s cs) ≡ drop 512 s)
-unfolding fedBytes runFrom
-fed-from [] s h = (refl, refl)
-fed-from (c ∷ cs) s h =
-    let r = fed-from cs (feedAfter s (c .offset) (c .piece)) (fed-long s h (c .offset) (c .piece)) in
-    (r .0 ∙ ap (λ (p : Pieces). runFrom p cs) (fed-tied s h (c .offset) (c .piece)), r .1 ∙ fed-behind s h (c .offset) (c .piece))
+-- what a run of calls does with the bytes of a state
+record Ran (s : List ℕ) (cs : List Call) : Type 0 where
+  state : stateIn (fedBytes s cs) ≡ runFrom (stateIn s) cs
+  says : saidBytes s cs ≡ saidFrom (stateIn s) cs
+  behind : drop stateSize (fedBytes s cs) ≡ drop stateSize s
+  long : stateSize ≤ length (fedBytes s cs)
 
--- any list of calls from a fresh state leads to the state by value that the calls lead to
-pub fed-run : (cs : List Call) (s : List ℕ) → 512 ≤ length s → stateIn (fedBytes (freshAfter s) cs) ≡ run cs
-fed-run cs s h = fed-from cs (freshAfter s) (fresh-long s h) .0 ∙ ap (λ (p : Pieces). runFrom p cs) (fresh-tied s h)
+ran : (cs : List Call) (s : List ℕ) → stateSize ≤ length s → Ran s cs
+unfolding fedBytes saidBytes runFrom saidFrom
+ran [] s h = record { state = refl; says = refl; behind = refl; long = h }
+ran (c ∷ cs) s h =
+    let r = ran cs (feedAfter s (c .offset) (c .piece)) (fed-long s h (c .offset) (c .piece)) in
+    let e = fed-tied s h (c .offset) (c .piece) in
+    record {
+      state = r .state ∙ ap (λ (p : Pieces). runFrom p cs) e;
+      says = λ i. fed-answer s h (c .offset) (c .piece) i ∷ (r .says ∙ ap (λ (p : Pieces). saidFrom p cs) e) i;
+      behind = r .behind ∙ fed-behind s h (c .offset) (c .piece);
+      long = r .long;
+    }
 
--- and what lies behind the state stays
-pub run-behind : (cs : List Call) (s : List ℕ) → 512 ≤ length s → drop 512 (fedBytes (freshAfter s) cs) ≡ drop 512 s
-run-behind cs s h = fed-from cs (freshAfter s) (fresh-long s h) .1 ∙ fresh-behind s h
-
--- so it holds the bytes that were brought, and every question to it is answered for them
-module _ (cs : List Call) (s : List ℕ) (h : 512 ≤ length s) where
+-- any list of calls, from a fresh state
+module _ (cs : List Call) (s : List ℕ) (h : stateSize ≤ length s) where
   abbrev fed : List ℕ
   fed = fedBytes (freshAfter s) cs
 
+  from-fresh : Ran (freshAfter s) cs
+  from-fresh = ran cs (freshAfter s) (fresh-long s h)
+
+  -- leads to the state by value that the calls lead to
+  pub fed-run : stateIn fed ≡ run cs
+  fed-run = from-fresh .state ∙ ap (λ (p : Pieces). runFrom p cs) (fresh-tied s h)
+
+  -- is answered by the calls alone, as the state by value is
+  pub fed-says : saidBytes (freshAfter s) cs ≡ answersFrom 0 cs
+  fed-says = from-fresh .says ∙ ap (λ (p : Pieces). saidFrom p cs) (fresh-tied s h) ∙ run-says cs
+
+  pub fed-words : map wordOf (saidBytes (freshAfter s) cs) ≡ map wordOf (answersFrom 0 cs)
+  fed-words = ap (map wordOf) fed-says
+
+  -- leaves what lies behind the state
+  pub run-behind : drop stateSize fed ≡ drop stateSize s
+  run-behind = from-fresh .behind ∙ fresh-behind s h
+
+  -- and leads to no state that is short
+  pub fed-whole : short fed ≡ false
+  fed-whole = le-ltb (length fed) stateSize (from-fresh .long)
+
+  -- so it holds the bytes that were brought, and every question to it is answered for them
   pub fed-holds : Holds (stateIn fed) (image cs)
-  fed-holds = subst (λ (p : Pieces). Holds p (image cs)) (sym (fed-run cs s h)) (run-holds cs)
+  fed-holds = subst (λ (p : Pieces). Holds p (image cs)) (sym fed-run) (run-holds cs)
 
   pub fed-arrived : arrivedIn fed ≡ keptOf (run cs)
-  fed-arrived = ap keptOf (fed-run cs s h)
+  fed-arrived = ap keptOf fed-run
 
   pub fed-identity : identityList (arrivedIn fed) ≡ identityList (image cs)
   unfolding identityList
@@ -144,3 +174,33 @@ module _ (cs : List Call) (s : List ℕ) (h : 512 ≤ length s) where
   pub fed-report : (out : List ℕ) → lintReportAfter (arrivedIn fed) out ≡ lintReportAfter (image cs) out
   unfolding lintReportOf lintReportAfter
   fed-report out = ap (λ (b : List ℕ). lintReportAfter b out) fed-arrived ∙ rw (run-findings cs, run-identity cs, run-timings cs)
+
+  -- THE QUESTIONS: put to the state, a question is answered as for the image that was brought, and leaves what was lent so too
+  abbrev pub AsImage : Question → (lent : List ℕ) → Type 0
+  AsImage q lent = (asked fed (q .answer (arrivedIn fed)) ≡ q .answer (image cs)) × (pick (short fed) lent (q .after (arrivedIn fed)) ≡ q .after (image cs))
+
+  as-image : (q : Question) (lent : List ℕ) → q .answer (arrivedIn fed) ≡ q .answer (image cs) → q .after (arrivedIn fed) ≡ q .after (image cs) → AsImage q lent
+  as-image q lent e f = rw fed-whole (e, f)
+
+  listed-as : (need : ℕ) (numbers : List ℕ → Said (List ℕ)) (out : List ℕ) → numbers (arrivedIn fed) ≡ numbers (image cs) → AsImage (listing need numbers out) out
+  listed-as need numbers out e = as-image (listing need numbers out) out (rw e) (rw e)
+
+  module _ (out : List ℕ) where
+    pub ask-lint : AsImage (reporting out) out
+    ask-lint = as-image (reporting out) out (fed-lint (length out)) (fed-report out)
+
+    pub ask-identity : AsImage (listing 18 identityList out) out
+    ask-identity = listed-as 18 identityList out fed-identity
+
+    pub ask-timings : AsImage (listing 30 timingsList out) out
+    ask-timings = listed-as 30 timingsList out fed-timings
+
+    pub ask-cas : AsImage (listing 40 casNumbers out) out
+    ask-cas = listed-as 40 casNumbers out fed-cas
+
+    pub ask-clocks : AsImage (listing 9 clocksList out) out
+    ask-clocks = listed-as 9 clocksList out fed-clocks
+
+  pub ask-taken : takenIn fed ≡ gives (length (image cs))
+  unfolding takenIn
+  ask-taken = rw fed-whole (ap gives (fed-holds .count))

@@ -1,5 +1,5 @@
--- A pieces state in lent bytes: the count taken in two bytes, low byte first, and the 510 bytes that are kept. A count has twelve bits;
--- no feeding leads past 2,048. Assumes nothing.
+-- A pieces state in lent bytes: the count taken in two bytes, low byte first, and the bytes that are kept. A count has twelve bits;
+-- no feeding leads past the longest image. Assumes nothing.
 use Prim.Native.Nat.{ℕ, _+_, _*_, _/_, _%_}
 use mathlib.Core.List.{List, [], _∷_, _++_}
 use mathlib.Core.Bool.{Bool}
@@ -8,19 +8,22 @@ use lib.ListN.{length, getD, take, drop}
 use Rattle.reading.specs.Pick.{pick}
 use Rattle.reading.specs.Said.{Said, gives, refused, onward}
 use Rattle.pieces.specs.declared.Pieces.{Pieces}
-use Rattle.pieces.specs.Fed.{fedBy, freshPieces, keptOf}
+use Rattle.pieces.specs.Fed.{keptBytes, fedBy, freshPieces, keptOf}
 use Rattle.pieces.specs.Run.{Call}
+
+abbrev pub stateSize : ℕ
+stateSize = 2 + keptBytes
 
 -- fewer bytes than a state has
 abbrev pub short : List ℕ → Bool
-short s = ltb (length s) 512
+short s = ltb (length s) stateSize
 
 abbrev pub countIn : List ℕ → ℕ
 countIn s = getD s 0 0 + 256 * (getD s 1 0 % 16)
 
 -- the state that the bytes are, and the bytes that a state is
 abbrev pub stateIn : List ℕ → Pieces
-stateIn s = record { kept = take 510 (drop 2 s); taken = countIn s }
+stateIn s = record { kept = take keptBytes (drop 2 s); taken = countIn s }
 
 abbrev pub stateBytes : Pieces → List ℕ
 stateBytes p = p .taken % 256 ∷ p .taken / 256 ∷ p .kept
@@ -37,7 +40,7 @@ unfoldable pub freshIn : List ℕ → Said ℕ
 freshIn s = asked s (gives 0)
 
 unfoldable pub freshAfter : List ℕ → List ℕ
-freshAfter s = pick (short s) s (stateBytes freshPieces ++ drop 512 s)
+freshAfter s = pick (short s) s (stateBytes freshPieces ++ drop stateSize s)
 
 unfoldable pub feedIn : List ℕ → (offset : ℕ) → List ℕ → Said ℕ
 feedIn s offset piece = asked s (fedBy (stateIn s) offset piece .answer)
@@ -46,12 +49,16 @@ feedIn s offset piece = asked s (fedBy (stateIn s) offset piece .answer)
 unfoldable pub feedAfter : List ℕ → (offset : ℕ) → List ℕ → List ℕ
 feedAfter s offset piece =
     pick (short s) s
-    (onward (λ t. s) (fedBy (stateIn s) offset piece .answer) (λ n. stateBytes (fedBy (stateIn s) offset piece .state) ++ drop 512 s))
+    (onward (λ t. s) (fedBy (stateIn s) offset piece .answer) (λ n. stateBytes (fedBy (stateIn s) offset piece .state) ++ drop stateSize s))
 
 unfoldable pub takenIn : List ℕ → Said ℕ
 takenIn s = asked s (gives (countIn s))
 
--- the bytes that a run of calls leads to
+-- the bytes that a run of calls leads to, and the answers that the bytes give
 unfoldable pub fedBytes : List ℕ → List Call → List ℕ
 fedBytes s [] = s
 fedBytes s (c ∷ cs) = fedBytes (feedAfter s (c .offset) (c .piece)) cs
+
+unfoldable pub saidBytes : List ℕ → List Call → List (Said ℕ)
+saidBytes s [] = []
+saidBytes s (c ∷ cs) = feedIn s (c .offset) (c .piece) ∷ saidBytes (feedAfter s (c .offset) (c .piece)) cs

@@ -12,10 +12,11 @@ ghost use Rattle.decoders.specs.Clocks.{clocksOf};
 ghost use Rattle.decoders.specs.Timing.{le16At, timesAt};
 ghost use Rattle.reading.specs.View.{view};
 ghost use Rattle.rules.specs.Lanes.{severityNumber};
+ghost use Rattle.pieces.specs.Fed.{longest};
 ghost use Rattle.report.specs.Write.{lintReportOf, lintReportAfter};
 ghost use Rattle.roostcord.specs.Word.{refusalWord, wordOf};
 ghost use Rattle.roostcord.specs.Numbers.{identityNumbers, timingNumbers, clockNumbers, clocksAt, reportNumbers, identityList, timingsList, casNumbers, clocksList, reportList, listedIn, listAfter};
-ghost use Rattle.roostcord.specs.State.{countIn, arrivedIn, asked, short, freshIn, freshAfter, feedIn, feedAfter, takenIn};
+ghost use Rattle.roostcord.specs.State.{stateSize, countIn, arrivedIn, asked, short, freshIn, freshAfter, feedIn, feedAfter, takenIn};
 use decoders::identity::Base;
 use decoders::identity::BaseAnswer;
 use decoders::identity::IDENTITY_BYTES;
@@ -28,9 +29,14 @@ use decoders::timing::Picoseconds;
 use decoders::timing::TIMING_BYTES;
 use findings::Findings;
 use findings::Severity;
+use pieces::FeedAnswer;
+use pieces::KEPT;
 use reading::Refusal;
 use report::ReadAnswer;
 use report::WriteAnswer;
+
+// A state in lent bytes: the count taken in two bytes, then the bytes that are kept.
+const STATE_SIZE: usize = 2 + KEPT;
 
 // Lints an image and writes its report: how many bytes.
 #[no_mangle]
@@ -157,44 +163,38 @@ pub extern "C" fn roostcord_clocks(image: &[u8], out: &mut [u32]) -> i32
     9
 }
 
-// Makes the first 512 bytes a state that has taken nothing.
+// Makes the first bytes a state that has taken nothing.
 #[no_mangle]
 pub extern "C" fn roostcord_pieces_fresh(state: &mut [u8]) -> i32
     ensures answer { λ r. ⌜ r ≡ wordOf (freshIn (now (state .entry))) ⌝ }
     ensures later { λ r. ⌜ now (state .exit) ≡ freshAfter (now (state .entry)) ⌝ }
 {
-    if state.len() < 512 {
+    if state.len() < STATE_SIZE {
         return refusal_word(Refusal::ListTooShort);
     }
     let mut i: usize = 0;
-    while i < 512 {
+    while i < STATE_SIZE {
         state[i] = 0;
         i += 1;
     }
     0
 }
 
-// Feeds a piece to the state in the first 512 bytes: the count of bytes taken.
+// Feeds a piece to the state in the first bytes: the count of bytes taken.
 #[no_mangle]
 pub extern "C" fn roostcord_pieces_feed(state: &mut [u8], offset: usize, piece: &[u8]) -> i32
     ensures answer { λ r. ⌜ r ≡ wordOf (feedIn (now (state .entry)) offset (now (piece .entry))) ⌝ }
     ensures later { λ r. ⌜ now (state .exit) ≡ feedAfter (now (state .entry)) offset (now (piece .entry)) ⌝ }
 {
-    if state.len() < 512 {
+    if state.len() < STATE_SIZE {
         return refusal_word(Refusal::ListTooShort);
     }
     let taken = count_in(state);
-    if offset != taken {
-        return refusal_word(Refusal::WrongOffset(taken));
-    }
-    if 2048 < taken {
-        return refusal_word(Refusal::TooLong);
-    }
-    if 2048 - taken < piece.len() {
-        return refusal_word(Refusal::TooLong);
-    }
-    let total = taken + piece.len();
-    pieces::lay(&mut state[2..512], taken, piece);
+    let total = match pieces::accept(taken, offset, piece.len()) {
+        FeedAnswer::Taken(total) => total,
+        FeedAnswer::Refused(why) => return refusal_word(why),
+    };
+    pieces::lay(&mut state[2..STATE_SIZE], taken, piece);
     state[0] = (total % 256) as u8;
     state[1] = (total / 256) as u8;
     count_word(total)
@@ -205,7 +205,7 @@ pub extern "C" fn roostcord_pieces_feed(state: &mut [u8], offset: usize, piece: 
 pub extern "C" fn roostcord_pieces_taken(state: &[u8]) -> i32
     ensures { λ r. ⌜ r ≡ wordOf (takenIn (now (state .entry))) ⌝ }
 {
-    if state.len() < 512 {
+    if state.len() < STATE_SIZE {
         return refusal_word(Refusal::ListTooShort);
     }
     count_word(count_in(state))
@@ -217,7 +217,7 @@ pub extern "C" fn roostcord_pieces_lint(state: &[u8], report: &mut [u8]) -> i32
     ensures answer { λ r. ⌜ r ≡ wordOf (asked (now (state .entry)) (lintReportOf (arrivedIn (now (state .entry))) (length (now (report .entry))))) ⌝ }
     ensures later { λ r. ⌜ now (report .exit) ≡ pick (short (now (state .entry))) (now (report .entry)) (lintReportAfter (arrivedIn (now (state .entry))) (now (report .entry))) ⌝ }
 {
-    if state.len() < 512 {
+    if state.len() < STATE_SIZE {
         return refusal_word(Refusal::ListTooShort);
     }
     roostcord_lint(arrived(state), report)
@@ -228,7 +228,7 @@ pub extern "C" fn roostcord_pieces_identity(state: &[u8], out: &mut [u32]) -> i3
     ensures answer { λ r. ⌜ r ≡ wordOf (asked (now (state .entry)) (listedIn 18 (identityList (arrivedIn (now (state .entry)))) (length (now (out .entry))))) ⌝ }
     ensures later { λ r. ⌜ now (out .exit) ≡ pick (short (now (state .entry))) (now (out .entry)) (listAfter 18 (identityList (arrivedIn (now (state .entry)))) (now (out .entry))) ⌝ }
 {
-    if state.len() < 512 {
+    if state.len() < STATE_SIZE {
         return refusal_word(Refusal::ListTooShort);
     }
     roostcord_identity(arrived(state), out)
@@ -239,7 +239,7 @@ pub extern "C" fn roostcord_pieces_timings(state: &[u8], out: &mut [u32]) -> i32
     ensures answer { λ r. ⌜ r ≡ wordOf (asked (now (state .entry)) (listedIn 30 (timingsList (arrivedIn (now (state .entry)))) (length (now (out .entry))))) ⌝ }
     ensures later { λ r. ⌜ now (out .exit) ≡ pick (short (now (state .entry))) (now (out .entry)) (listAfter 30 (timingsList (arrivedIn (now (state .entry)))) (now (out .entry))) ⌝ }
 {
-    if state.len() < 512 {
+    if state.len() < STATE_SIZE {
         return refusal_word(Refusal::ListTooShort);
     }
     roostcord_timings(arrived(state), out)
@@ -250,7 +250,7 @@ pub extern "C" fn roostcord_pieces_cas_latencies(state: &[u8], out: &mut [u16]) 
     ensures answer { λ r. ⌜ r ≡ wordOf (asked (now (state .entry)) (listedIn 40 (casNumbers (arrivedIn (now (state .entry)))) (length (now (out .entry))))) ⌝ }
     ensures later { λ r. ⌜ now (out .exit) ≡ pick (short (now (state .entry))) (now (out .entry)) (listAfter 40 (casNumbers (arrivedIn (now (state .entry)))) (now (out .entry))) ⌝ }
 {
-    if state.len() < 512 {
+    if state.len() < STATE_SIZE {
         return refusal_word(Refusal::ListTooShort);
     }
     roostcord_cas_latencies(arrived(state), out)
@@ -261,7 +261,7 @@ pub extern "C" fn roostcord_pieces_clocks(state: &[u8], out: &mut [u32]) -> i32
     ensures answer { λ r. ⌜ r ≡ wordOf (asked (now (state .entry)) (listedIn 9 (clocksList (arrivedIn (now (state .entry)))) (length (now (out .entry))))) ⌝ }
     ensures later { λ r. ⌜ now (out .exit) ≡ pick (short (now (state .entry))) (now (out .entry)) (listAfter 9 (clocksList (arrivedIn (now (state .entry)))) (now (out .entry))) ⌝ }
 {
-    if state.len() < 512 {
+    if state.len() < STATE_SIZE {
         return refusal_word(Refusal::ListTooShort);
     }
     roostcord_clocks(arrived(state), out)
@@ -307,15 +307,15 @@ fn wide(x: u8) -> usize
 
 // What has arrived of the image, as far as it is kept: a part of the state.
 fn arrived(state: &[u8]) -> &[u8]
-    requires { ⌜ 512 ≤ length (now state) ⌝ }
+    requires { ⌜ stateSize ≤ length (now state) ⌝ }
     ensures { λ r. ⌜ now r ≡ arrivedIn (now (state .entry)) ⌝ }
 {
     let taken = count_in(state);
-    if taken < 510 {
+    if taken < KEPT {
         let end = 2 + taken;
         return &state[2..end];
     }
-    &state[2..512]
+    &state[2..STATE_SIZE]
 }
 
 fn bit(set: bool) -> u32
@@ -415,7 +415,7 @@ fn put_timings(image: &[u8], out: &mut [u32])
 
 // A stored time in picoseconds, one in nanoseconds, and a count of clocks.
 fn ps(image: &[u8], offset: usize) -> u32
-    requires { ⌜ offset < 2048 ⌝ }
+    requires { ⌜ offset < longest ⌝ }
     ensures { λ r. ⌜ (r ≡ le16At (view (now (image .entry))) offset) × (r < 65536) ⌝ }
 {
     let low = reading::byte_or_zero(image, offset);
@@ -424,7 +424,7 @@ fn ps(image: &[u8], offset: usize) -> u32
 }
 
 fn ns(image: &[u8], offset: usize) -> u32
-    requires { ⌜ offset < 2048 ⌝ }
+    requires { ⌜ offset < longest ⌝ }
     ensures { λ r. ⌜ r ≡ le16At (view (now (image .entry))) offset * 1000 ⌝ }
 {
     ps(image, offset) * 1000

@@ -6,18 +6,19 @@ use native.Mathlib.Omega.{arith}
 use lib.ListN.{take, drop, length-take}
 use lib.Seq.{take-take, take-all}
 use borrow.Author.Needs.{needs}
+use Rattle.pieces.specs.Fed.{keptBytes}
 use Rattle.roostcord.specs.State.{countIn, arrivedIn}
 use Rattle.roostcord.proofs.arrived.Statement.{statement}
 use Rattle.roostcord.proofs.arrived.Tie as tie
 
 module _ (s : List ℕ) {n : ℕ} (e : n ≡ countIn s) where
-  few : n < 510 → take (2 + n - 2) (drop 2 s) ≡ arrivedIn s
+  few : n < keptBytes → take (2 + n - 2) (drop 2 s) ≡ arrivedIn s
   few h =
       let m : 2 + n - 2 ≡ n = omega arith in
-      rw (m, ← e) (sym (take-take n 510 (drop 2 s) (omega arith)))
+      rw (m, ← e) (sym (take-take n keptBytes (drop 2 s) (omega arith)))
 
-  many : 510 ≤ n → take 510 (drop 2 s) ≡ arrivedIn s
-  many h = rw (← e) (sym (take-all n (take 510 (drop 2 s)) (simp length-take (omega arith))))
+  many : keptBytes ≤ n → take keptBytes (drop 2 s) ≡ arrivedIn s
+  many h = rw (← e) (sym (take-all n (take keptBytes (drop 2 s)) (simp length-take (omega arith))))
 
 pub arrived-spec : {M : Type 1} → statement M
 arrived-spec =

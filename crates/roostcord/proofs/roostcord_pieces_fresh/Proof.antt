@@ -7,17 +7,17 @@ use native.Mathlib.Numerals.{add-one}
 use lib.ListN.{length, drop, replicate}
 use borrow.Author.Needs.{needs}
 use borrow.Author.Tests.{lt-ltb, le-ltb}
-use Rattle.roostcord.specs.State.{freshIn, freshAfter}
+use Rattle.roostcord.specs.State.{stateSize, freshIn, freshAfter}
 use Rattle.roostcord.proofs.Words.{handed}
 use Rattle.roostcord.proofs.Stores.{zero-next}
 use Rattle.roostcord.proofs.roostcord_pieces_fresh.Statement.{statement}
 use Rattle.roostcord.proofs.roostcord_pieces_fresh.Tie as tie
 
 abbrev Inv-loop : tie.InvT-loop
-Inv-loop state₀ i₀ state i = (i ≤ 512) × (length state ≡ length state₀) × (state ≡ replicate i 0 ++ drop i state₀)
+Inv-loop state₀ i₀ state i = (i ≤ stateSize) × (length state ≡ length state₀) × (state ≡ replicate i 0 ++ drop i state₀)
 
 abbrev μ-loop : tie.MeasureT-loop
-μ-loop state₀ i₀ state i = 512 - i
+μ-loop state₀ i₀ state i = stateSize - i
 
 pub roostcord-pieces-fresh-spec : {M : Type 1} → statement M
 unfolding freshIn freshAfter
@@ -39,5 +39,5 @@ roostcord-pieces-fresh-spec =
     (λ c. search needs)
     (λ c.
     let l = c .before .loop in
-    let e : l .i ≡ 512 = omega arith in
+    let e : l .i ≡ stateSize = omega arith in
     simp (le-ltb _ _ (c .before .before .if1 .left)) (refl, l .inv .2 ∙ rw e)))

@@ -1,16 +1,9 @@
 -- `roostcord::roostcord_pieces_lint` meets its contract: a question to a state is one for what has arrived. Assumes nothing.
 use borrow.Author.Needs.{needs}
-use Rattle.report.specs.Write.{lintReportOf, lintReportAfter}
-use mathlib.Core.List.{List}
-use Prim.Native.Nat.{ℕ}
-use lib.ListN.{length}
 use Rattle.roostcord.proofs.Words.{handed}
-use Rattle.roostcord.proofs.Answers.{Question, no-state, of-state}
+use Rattle.roostcord.proofs.Answers.{reporting, no-state, of-state}
 use Rattle.roostcord.proofs.roostcord_pieces_lint.Statement.{statement}
 use Rattle.roostcord.proofs.roostcord_pieces_lint.Tie as tie
-
-abbrev reporting : List ℕ → Question
-reporting out = record { answer = λ s. lintReportOf s (length out); after = λ s. lintReportAfter s out }
 
 pub roostcord-pieces-lint-spec : {M : Type 1} → statement M
 roostcord-pieces-lint-spec =
