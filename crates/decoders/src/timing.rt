@@ -3,8 +3,8 @@ ghost use mathlib.Core.Path.{_≡_};
 ghost use Prim.Native.Nat.{_+_, _<_, _*_};
 ghost use Rattle.reading.specs.View.{view};
 ghost use Rattle.decoders.specs.Cas.{casOf, inSet, casListOf, casListAfter};
-ghost use Rattle.decoders.specs.Timing.{le16At, pairAt, casAt, rateOf, timingsOf};
-ghost use Rattle.decoders.specs.Answers.{casListSaid, timingsSaid};
+ghost use Rattle.decoders.specs.Timing.{le16At, pairAt, casAt, rateOf, timesAt, timingBytesOf, timingsOf};
+ghost use Rattle.decoders.specs.Answers.{casListSaid, timingBytesSaid, timingsSaid};
 use reading::Refusal;
 
 // Byte offsets in the image.
@@ -49,7 +49,7 @@ const OFF_TWTR_S: usize = 88;
 const OFF_TRTP: usize = 91;
 
 // Up to the clock byte of tRTP.
-pub const TIMING_BYTES: usize = 94;
+const TIMING_BYTES: usize = 94;
 
 // A duration in picoseconds: every absolute time is kept so.
 pub struct Picoseconds(pub u32);
@@ -189,35 +189,67 @@ pub enum TimingsAnswer {
     Refused(Refusal),
 }
 
+// What the timings are read from: the first bytes of an image.
+pub struct TimingBytes(pub [u8; 94]);
+
+// Refused comes first, which has the compiler expect the other case.
+pub enum TimingBytesAnswer {
+    Refused(Refusal),
+    Bytes(TimingBytes),
+}
+
 // The base timings of an image. No value is reserved, so a short image is the only refusal.
 pub fn decode_timings(image: &[u8]) -> TimingsAnswer
     ensures { λ r. ⌜ timingsSaid r ≡ timingsOf (now (image .entry)) ⌝ }
 {
-    if image.len() < TIMING_BYTES {
-        return TimingsAnswer::Refused(Refusal::Truncated);
+    match timing_bytes(image) {
+        TimingBytesAnswer::Bytes(bytes) => TimingsAnswer::Decoded(timings_in(bytes)),
+        TimingBytesAnswer::Refused(why) => TimingsAnswer::Refused(why),
     }
-    TimingsAnswer::Decoded(Timings {
-        tckavg_min: ps_units(read_le_u16(image, OFF_TCKAVG_MIN)),
-        tckavg_max: ps_units(read_le_u16(image, OFF_TCKAVG_MAX)),
-        supported_cas_latencies: decode_cas_latencies(image),
-        taa: ps_units(read_le_u16(image, OFF_TAA)),
-        trcd: ps_units(read_le_u16(image, OFF_TRCD)),
-        trp: ps_units(read_le_u16(image, OFF_TRP)),
-        tras: ps_units(read_le_u16(image, OFF_TRAS)),
-        trc: ps_units(read_le_u16(image, OFF_TRC)),
-        twr: ps_units(read_le_u16(image, OFF_TWR)),
-        trfc1: ns_units(read_le_u16(image, OFF_TRFC1)),
-        trfc2: ns_units(read_le_u16(image, OFF_TRFC2)),
-        trfcsb: ns_units(read_le_u16(image, OFF_TRFCSB)),
-        trrd_l: read_pair(image, OFF_TRRD_L),
-        tccd_l: read_pair(image, OFF_TCCD_L),
-        tccd_l_wr: read_pair(image, OFF_TCCD_L_WR),
-        tccd_l_wr2: read_pair(image, OFF_TCCD_L_WR2),
-        tfaw: read_pair(image, OFF_TFAW),
-        twtr_l: read_pair(image, OFF_TWTR_L),
-        twtr_s: read_pair(image, OFF_TWTR_S),
-        trtp: read_pair(image, OFF_TRTP),
-    })
+}
+
+// The bytes by value: a caller that takes the record apart has it without a call, and the copy is never made.
+pub fn timing_bytes(image: &[u8]) -> TimingBytesAnswer
+    ensures { λ r. ⌜ timingBytesSaid r ≡ timingBytesOf (now (image .entry)) ⌝ }
+{
+    if image.len() < TIMING_BYTES {
+        return TimingBytesAnswer::Refused(Refusal::Truncated);
+    }
+    let mut bytes = [0u8; 94];
+    let mut i: usize = 0;
+    while i < TIMING_BYTES {
+        bytes[i] = image[i];
+        i += 1;
+    }
+    TimingBytesAnswer::Bytes(TimingBytes(bytes))
+}
+
+// The record that they stand for.
+pub fn timings_in(bytes: TimingBytes) -> Timings
+    ensures { λ r. ⌜ r ≡ timesAt (view (bytes .0)) ⌝ }
+{
+    Timings {
+        tckavg_min: ps_units(read_le_u16(&bytes.0, OFF_TCKAVG_MIN)),
+        tckavg_max: ps_units(read_le_u16(&bytes.0, OFF_TCKAVG_MAX)),
+        supported_cas_latencies: decode_cas_latencies(&bytes.0),
+        taa: ps_units(read_le_u16(&bytes.0, OFF_TAA)),
+        trcd: ps_units(read_le_u16(&bytes.0, OFF_TRCD)),
+        trp: ps_units(read_le_u16(&bytes.0, OFF_TRP)),
+        tras: ps_units(read_le_u16(&bytes.0, OFF_TRAS)),
+        trc: ps_units(read_le_u16(&bytes.0, OFF_TRC)),
+        twr: ps_units(read_le_u16(&bytes.0, OFF_TWR)),
+        trfc1: ns_units(read_le_u16(&bytes.0, OFF_TRFC1)),
+        trfc2: ns_units(read_le_u16(&bytes.0, OFF_TRFC2)),
+        trfcsb: ns_units(read_le_u16(&bytes.0, OFF_TRFCSB)),
+        trrd_l: read_pair(&bytes.0, OFF_TRRD_L),
+        tccd_l: read_pair(&bytes.0, OFF_TCCD_L),
+        tccd_l_wr: read_pair(&bytes.0, OFF_TCCD_L_WR),
+        tccd_l_wr2: read_pair(&bytes.0, OFF_TCCD_L_WR2),
+        tfaw: read_pair(&bytes.0, OFF_TFAW),
+        twtr_l: read_pair(&bytes.0, OFF_TWTR_L),
+        twtr_s: read_pair(&bytes.0, OFF_TWTR_S),
+        trtp: read_pair(&bytes.0, OFF_TRTP),
+    }
 }
 
 // A stored 16-bit value that is already in picoseconds.
@@ -256,7 +288,7 @@ fn read_pair(image: &[u8], offset: usize) -> TimingPair
 }
 
 // The five bytes of the CAS latencies as a set.
-pub fn decode_cas_latencies(image: &[u8]) -> CasLatencies
+fn decode_cas_latencies(image: &[u8]) -> CasLatencies
     ensures { λ r. ⌜ r ≡ casAt (view (now (image .entry))) 24 ⌝ }
 {
     CasLatencies::from_bytes(
