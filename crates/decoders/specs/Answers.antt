@@ -1,9 +1,8 @@
 -- What each answer of this layer says: the value, or the refusal by document 01's number. Assumes nothing.
 use Prim.Native.Nat.{ℕ}
 use Rattle.reading.specs.Said.{Said, gives, refuses, told}
-use Rattle.decoders.specs.declared.timing.TimingBytes.{TimingBytes}
-use Rattle.decoders.specs.declared.timing.TimingBytesAnswer.{TimingBytesAnswer}
-use Rattle.decoders.specs.declared.timing.TimingBytesAnswer.the-variants as time-bytes
+use Rattle.decoders.specs.declared.timing.TimingReach.{TimingReach}
+use Rattle.decoders.specs.declared.timing.TimingReach.the-variants as reach
 use Rattle.decoders.specs.declared.timing.Timings.{Timings}
 use Rattle.decoders.specs.declared.timing.TimingsAnswer.{TimingsAnswer}
 use Rattle.decoders.specs.declared.timing.TimingsAnswer.the-variants as times
@@ -45,9 +44,9 @@ identitySaid (identity.Decoded d) = gives d
 identitySaid (identity.Refused why) = refuses (told why)
 
 -- what a record is read from, and the parts of the identity
-abbrev pub timingBytesSaid : TimingBytesAnswer → Said TimingBytes
-timingBytesSaid (time-bytes.Bytes b) = gives b
-timingBytesSaid (time-bytes.Refused why) = refuses (told why)
+abbrev pub reachSaid : TimingReach → Said (Unit {0})
+reachSaid reach.Whole = gives tt
+reachSaid (reach.Refused why) = refuses (told why)
 
 abbrev pub identityBytesSaid : IdentityBytesAnswer → Said IdentityBytes
 identityBytesSaid (id-bytes.Bytes b) = gives b

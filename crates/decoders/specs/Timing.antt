@@ -2,7 +2,7 @@
 use Prim.Native.Nat.{ℕ, _+_, _*_, _/_}
 use mathlib.Core.List.{List}
 use lib.Dec.{eqb}
-use lib.ListN.{take}
+use lib.ListN.{take, replicate}
 use Rattle.reading.specs.Pick.{pick}
 use Rattle.reading.specs.View.{View, view}
 use Rattle.reading.specs.Said.{Said, gives, refused}
@@ -10,7 +10,6 @@ use Rattle.decoders.specs.Cas.{casOf}
 use Rattle.decoders.specs.declared.timing.Picoseconds.{Picoseconds}
 use Rattle.decoders.specs.declared.timing.TimingPair.{TimingPair}
 use Rattle.decoders.specs.declared.timing.CasLatencies.{CasLatencies}
-use Rattle.decoders.specs.declared.timing.TimingBytes.{TimingBytes}
 use Rattle.decoders.specs.declared.timing.Timings.{Timings}
 
 -- a 16-bit value, low byte first
@@ -65,9 +64,12 @@ timingsAt v = pick (v .below 94) (refused 1 0 0) (gives (timesAt v))
 unfoldable pub timingsOf : List ℕ → Said Timings
 timingsOf s = timingsAt (view s)
 
--- the bytes that the record is read from
-unfoldable pub timingBytesOf : List ℕ → Said TimingBytes
-timingBytesOf s = pick (view s .below 94) (refused 1 0 0) (gives (record { 0 = take 94 s }))
+-- whether the image has the bytes that the record is read from, and those bytes
+unfoldable pub timingReachOf : List ℕ → Said (Unit {0})
+timingReachOf s = pick (view s .below 94) (refused 1 0 0) (gives tt)
+
+unfoldable pub timingBytesOf : List ℕ → List ℕ
+timingBytesOf s = pick (view s .below 94) (replicate 94 0) (take 94 s)
 
 -- the data rate of a cycle time, each division rounded down
 abbrev pub rateOf : ℕ → ℕ

@@ -3,8 +3,8 @@ ghost use mathlib.Core.Path.{_≡_};
 ghost use Prim.Native.Nat.{_+_, _<_, _*_};
 ghost use Rattle.reading.specs.View.{view};
 ghost use Rattle.decoders.specs.Cas.{casOf, inSet, casListOf, casListAfter};
-ghost use Rattle.decoders.specs.Timing.{le16At, pairAt, casAt, rateOf, timesAt, timingBytesOf, timingsOf};
-ghost use Rattle.decoders.specs.Answers.{casListSaid, timingBytesSaid, timingsSaid};
+ghost use Rattle.decoders.specs.Timing.{le16At, pairAt, casAt, rateOf, timesAt, timingReachOf, timingBytesOf, timingsOf};
+ghost use Rattle.decoders.specs.Answers.{casListSaid, reachSaid, timingsSaid};
 use reading::Refusal;
 
 // Byte offsets in the image.
@@ -189,31 +189,40 @@ pub enum TimingsAnswer {
     Refused(Refusal),
 }
 
-// What the timings are read from: the first bytes of an image.
-pub struct TimingBytes(pub [u8; 94]);
-
-// Refused comes first, which has the compiler expect the other case.
-pub enum TimingBytesAnswer {
+// Whether an image has the bytes that the timings are read from.
+pub enum TimingReach {
     Refused(Refusal),
-    Bytes(TimingBytes),
+    Whole,
+}
+
+// Those bytes, from the image's first on; zeros where it does not have them.
+pub struct TimingBytes {
+    pub reach: TimingReach,
+    pub bytes: [u8; 94],
 }
 
 // The base timings of an image. No value is reserved, so a short image is the only refusal.
 pub fn decode_timings(image: &[u8]) -> TimingsAnswer
     ensures { λ r. ⌜ timingsSaid r ≡ timingsOf (now (image .entry)) ⌝ }
 {
-    match timing_bytes(image) {
-        TimingBytesAnswer::Bytes(bytes) => TimingsAnswer::Decoded(timings_in(bytes)),
-        TimingBytesAnswer::Refused(why) => TimingsAnswer::Refused(why),
+    let read = timing_bytes(image);
+    let reach = read.reach;
+    match reach {
+        TimingReach::Whole => TimingsAnswer::Decoded(timings_in(read)),
+        TimingReach::Refused(why) => TimingsAnswer::Refused(why),
     }
 }
 
-// The bytes by value: a caller that takes the record apart has it without a call, and the copy is never made.
-pub fn timing_bytes(image: &[u8]) -> TimingBytesAnswer
-    ensures { λ r. ⌜ timingBytesSaid r ≡ timingBytesOf (now (image .entry)) ⌝ }
+// The one test of the length. The bytes go by value so that `timings_in` has no test and is compiled into each of its callers, which the
+// whole decoder would not be; no copy of them is left then.
+pub fn timing_bytes(image: &[u8]) -> TimingBytes
+    ensures reach { λ r. ⌜ reachSaid (r .reach) ≡ timingReachOf (now (image .entry)) ⌝ }
+    ensures bytes { λ r. ⌜ r .bytes ≡ timingBytesOf (now (image .entry)) ⌝ }
 {
     if image.len() < TIMING_BYTES {
-        return TimingBytesAnswer::Refused(Refusal::Truncated);
+        let reach = TimingReach::Refused(Refusal::Truncated);
+        let bytes = [0u8; 94];
+        return TimingBytes { reach, bytes };
     }
     let mut bytes = [0u8; 94];
     let mut i: usize = 0;
@@ -221,34 +230,42 @@ pub fn timing_bytes(image: &[u8]) -> TimingBytesAnswer
         bytes[i] = image[i];
         i += 1;
     }
-    TimingBytesAnswer::Bytes(TimingBytes(bytes))
+    let reach = TimingReach::Whole;
+    TimingBytes { reach, bytes }
 }
 
-// The record that they stand for.
-pub fn timings_in(bytes: TimingBytes) -> Timings
-    ensures { λ r. ⌜ r ≡ timesAt (view (bytes .0)) ⌝ }
+// The record that the bytes stand for.
+pub fn timings_in(read: TimingBytes) -> Timings
+    ensures { λ r. ⌜ r ≡ timesAt (view (read .bytes)) ⌝ }
+{
+    times(&read.bytes)
+}
+
+// The record of bytes, with 0 past their end.
+fn times(image: &[u8]) -> Timings
+    ensures { λ r. ⌜ r ≡ timesAt (view (now (image .entry))) ⌝ }
 {
     Timings {
-        tckavg_min: ps_units(read_le_u16(&bytes.0, OFF_TCKAVG_MIN)),
-        tckavg_max: ps_units(read_le_u16(&bytes.0, OFF_TCKAVG_MAX)),
-        supported_cas_latencies: decode_cas_latencies(&bytes.0),
-        taa: ps_units(read_le_u16(&bytes.0, OFF_TAA)),
-        trcd: ps_units(read_le_u16(&bytes.0, OFF_TRCD)),
-        trp: ps_units(read_le_u16(&bytes.0, OFF_TRP)),
-        tras: ps_units(read_le_u16(&bytes.0, OFF_TRAS)),
-        trc: ps_units(read_le_u16(&bytes.0, OFF_TRC)),
-        twr: ps_units(read_le_u16(&bytes.0, OFF_TWR)),
-        trfc1: ns_units(read_le_u16(&bytes.0, OFF_TRFC1)),
-        trfc2: ns_units(read_le_u16(&bytes.0, OFF_TRFC2)),
-        trfcsb: ns_units(read_le_u16(&bytes.0, OFF_TRFCSB)),
-        trrd_l: read_pair(&bytes.0, OFF_TRRD_L),
-        tccd_l: read_pair(&bytes.0, OFF_TCCD_L),
-        tccd_l_wr: read_pair(&bytes.0, OFF_TCCD_L_WR),
-        tccd_l_wr2: read_pair(&bytes.0, OFF_TCCD_L_WR2),
-        tfaw: read_pair(&bytes.0, OFF_TFAW),
-        twtr_l: read_pair(&bytes.0, OFF_TWTR_L),
-        twtr_s: read_pair(&bytes.0, OFF_TWTR_S),
-        trtp: read_pair(&bytes.0, OFF_TRTP),
+        tckavg_min: ps_units(read_le_u16(image, OFF_TCKAVG_MIN)),
+        tckavg_max: ps_units(read_le_u16(image, OFF_TCKAVG_MAX)),
+        supported_cas_latencies: decode_cas_latencies(image),
+        taa: ps_units(read_le_u16(image, OFF_TAA)),
+        trcd: ps_units(read_le_u16(image, OFF_TRCD)),
+        trp: ps_units(read_le_u16(image, OFF_TRP)),
+        tras: ps_units(read_le_u16(image, OFF_TRAS)),
+        trc: ps_units(read_le_u16(image, OFF_TRC)),
+        twr: ps_units(read_le_u16(image, OFF_TWR)),
+        trfc1: ns_units(read_le_u16(image, OFF_TRFC1)),
+        trfc2: ns_units(read_le_u16(image, OFF_TRFC2)),
+        trfcsb: ns_units(read_le_u16(image, OFF_TRFCSB)),
+        trrd_l: read_pair(image, OFF_TRRD_L),
+        tccd_l: read_pair(image, OFF_TCCD_L),
+        tccd_l_wr: read_pair(image, OFF_TCCD_L_WR),
+        tccd_l_wr2: read_pair(image, OFF_TCCD_L_WR2),
+        tfaw: read_pair(image, OFF_TFAW),
+        twtr_l: read_pair(image, OFF_TWTR_L),
+        twtr_s: read_pair(image, OFF_TWTR_S),
+        trtp: read_pair(image, OFF_TRTP),
     }
 }
 

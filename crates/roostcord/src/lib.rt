@@ -23,7 +23,7 @@ use decoders::identity::OrganizationAnswer;
 use decoders::identity::Sdram;
 use decoders::identity::SdramAnswer;
 use decoders::timing::CasListAnswer;
-use decoders::timing::TimingBytesAnswer;
+use decoders::timing::TimingReach;
 use decoders::timing::Timings;
 use findings::Findings;
 use findings::Severity;
@@ -101,12 +101,14 @@ pub extern "C" fn roostcord_timings(image: &[u8], out: &mut [u32]) -> i32
     if out.len() < 30 {
         return refusal_word(Refusal::ListTooShort);
     }
-    match decoders::timing::timing_bytes(image) {
-        TimingBytesAnswer::Bytes(bytes) => {
-            put_timings(decoders::timing::timings_in(bytes), out);
+    let read = decoders::timing::timing_bytes(image);
+    let reach = read.reach;
+    match reach {
+        TimingReach::Whole => {
+            put_timings(decoders::timing::timings_in(read), out);
             30
         }
-        TimingBytesAnswer::Refused(why) => refusal_word(why),
+        TimingReach::Refused(why) => refusal_word(why),
     }
 }
 
@@ -119,16 +121,18 @@ pub extern "C" fn roostcord_cas_latencies(image: &[u8], out: &mut [u16]) -> i32
     if out.len() < 40 {
         return refusal_word(Refusal::ListTooShort);
     }
-    match decoders::timing::timing_bytes(image) {
-        TimingBytesAnswer::Bytes(bytes) => {
-            let t = decoders::timing::timings_in(bytes);
+    let read = decoders::timing::timing_bytes(image);
+    let reach = read.reach;
+    match reach {
+        TimingReach::Whole => {
+            let t = decoders::timing::timings_in(read);
             let set = t.supported_cas_latencies;
             match set.list(out) {
                 CasListAnswer::Listed(n) => count_word(n),
                 CasListAnswer::Refused(why) => refusal_word(why),
             }
         }
-        TimingBytesAnswer::Refused(why) => refusal_word(why),
+        TimingReach::Refused(why) => refusal_word(why),
     }
 }
 
@@ -141,16 +145,19 @@ pub extern "C" fn roostcord_clocks(image: &[u8], out: &mut [u32]) -> i32
     if out.len() < 9 {
         return refusal_word(Refusal::ListTooShort);
     }
-    match decoders::timing::timing_bytes(image) {
-        TimingBytesAnswer::Bytes(bytes) =>
-            match decoders::clocks::clock_table(decoders::timing::timings_in(bytes)) {
-                ClockTableAnswer::Table(c) => {
-                    put_clocks(c, out);
-                    9
-                }
-                ClockTableAnswer::Refused(why) => refusal_word(why),
-            },
-        TimingBytesAnswer::Refused(why) => refusal_word(why),
+    let read = decoders::timing::timing_bytes(image);
+    let reach = read.reach;
+    match reach {
+        TimingReach::Whole => match decoders::clocks::clock_table(decoders::timing::timings_in(
+            read,
+        )) {
+            ClockTableAnswer::Table(c) => {
+                put_clocks(c, out);
+                9
+            }
+            ClockTableAnswer::Refused(why) => refusal_word(why),
+        },
+        TimingReach::Refused(why) => refusal_word(why),
     }
 }
 
