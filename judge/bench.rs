@@ -358,6 +358,13 @@ fn print_against_rust(own: Option<f64>) {
     print_rows("lint, clean", "lint-clean", clean, lint_ours(), lint_rust(), own);
     print_rows("identity, mixed", "identity", mixed, identity_ours(), identity_rust(), own);
     print_rows("timings, mixed", "timings", mixed, timings_ours(), timings_rust(), own);
+    let f = compare(&mixed(FIXED), false, bursts_ours(), lint_rust());
+    println!(
+        "| 512 bytes in 32 bursts, then lint, against the Rust's lint of the whole image; mixed, fixed | {} | {} | {} |",
+        time_cells(&f),
+        instruction_cell("bursts-ours", own),
+        instruction_cell("lint-mixed-rust", own)
+    );
 }
 
 fn print_bursts(own: Option<f64>) {

@@ -4,3 +4,4 @@ pub mod Least
 pub mod Once
 pub mod Reach
 pub mod Parts
+pub mod Read

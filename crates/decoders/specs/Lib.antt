@@ -4,4 +4,4 @@ pub mod Cas
 pub mod Timing
 pub mod Clocks
 pub mod Answers
-pub mod Parts
+pub mod Fields

@@ -2,6 +2,7 @@
 use Prim.Native.Nat.{ℕ, _+_, _*_, _/_}
 use mathlib.Core.List.{List}
 use lib.Dec.{eqb}
+use lib.ListN.{take, replicate}
 use Rattle.reading.specs.Pick.{pick}
 use Rattle.reading.specs.View.{View, view}
 use Rattle.reading.specs.Said.{Said, gives, refused}
@@ -62,6 +63,13 @@ timingsAt v = pick (v .below 94) (refused 1 0 0) (gives (timesAt v))
 
 unfoldable pub timingsOf : List ℕ → Said Timings
 timingsOf s = timingsAt (view s)
+
+-- whether the image has the bytes that the record is read from, and those bytes
+unfoldable pub timingReachOf : List ℕ → Said (Unit {0})
+timingReachOf s = pick (view s .below 94) (refused 1 0 0) (gives tt)
+
+unfoldable pub timingBytesOf : List ℕ → List ℕ
+timingBytesOf s = pick (view s .below 94) (replicate 94 0) (take 94 s)
 
 -- the data rate of a cycle time, each division rounded down
 abbrev pub rateOf : ℕ → ℕ

@@ -4,9 +4,9 @@ ghost use Prim.Native.Nat.{_+_, _/_, _%_};
 ghost use lib.Dec.{eqb};
 ghost use Rattle.decoders.specs.Codes.{sizeOf, revisionOf, deviceOf, moduleOf, densityOf, packageOf, ioWidthOf, bankGroupsOf, banksOf, busWidthOf, channelsOf};
 ghost use Rattle.decoders.specs.Codes.{deviceCode, moduleCode, gigabitsIn, bitsIn, groupsIn, banksIn, packageCode};
-ghost use Rattle.decoders.specs.Identity.{identityOf};
-ghost use Rattle.decoders.specs.Parts.{baseOf, sdramOf, organizationOf};
-ghost use Rattle.decoders.specs.Answers.{numberSaid, countSaid, deviceSaid, moduleSaid, densitySaid, packageSaid, ioWidthSaid, bankGroupsSaid, banksSaid, baseSaid, sdramSaid, organizationSaid, identitySaid};
+ghost use Rattle.decoders.specs.Identity.{identityBytesOf, baseOf, sdramOf, organizationOf, identityOf};
+ghost use Rattle.decoders.specs.Answers.{identityBytesSaid, baseSaid, sdramSaid, organizationSaid, identitySaid};
+ghost use Rattle.decoders.specs.Fields.{numberSaid, countSaid, deviceSaid, moduleSaid, densitySaid, packageSaid, ioWidthSaid, bankGroupsSaid, banksSaid};
 use reading::Refusal;
 
 // Byte offsets in the image.
@@ -31,7 +31,7 @@ const OFF_MODULE_ORGANIZATION: usize = 234;
 const OFF_MEMORY_CHANNEL_BUS_WIDTH: usize = 235;
 
 // Up to the bus width.
-pub const IDENTITY_BYTES: usize = 236;
+const IDENTITY_BYTES: usize = 236;
 
 // SPD revision, from byte 1: two plain nibbles.
 pub struct SpdRevision {
@@ -238,7 +238,21 @@ pub enum IdentityAnswer {
     Refused(Refusal),
 }
 
-// Its three parts: bytes 0 to 3, 4 to 7, and 234 and 235. Refused comes first in their answers, which has the compiler expect the other case.
+// The ten bytes that it is read from, under the names of their offsets.
+pub struct IdentityBytes {
+    pub spd_size: u8,
+    pub spd_revision: u8,
+    pub device_type: u8,
+    pub module_type: u8,
+    pub first_density_package: u8,
+    pub first_addressing: u8,
+    pub first_io_width: u8,
+    pub first_bank_groups: u8,
+    pub module_organization: u8,
+    pub memory_channel_bus_width: u8,
+}
+
+// Its three parts: of bytes 0 to 3, 4 to 7, and 234 and 235.
 pub struct Base {
     pub spd_bytes_total: u16,
     pub spd_revision: SpdRevision,
@@ -263,6 +277,12 @@ pub struct Organization {
     pub rank_mix_asymmetric: bool,
     pub channels_per_dimm: u8,
     pub primary_bus_width_bits: u16,
+}
+
+// Refused comes first in these answers, which has the compiler expect the other case.
+pub enum IdentityBytesAnswer {
+    Refused(Refusal),
+    Bytes(IdentityBytes),
 }
 
 pub enum BaseAnswer {
@@ -336,28 +356,19 @@ enum BanksAnswer {
 pub fn decode_identity_and_base(image: &[u8]) -> IdentityAnswer
     ensures { λ r. ⌜ identitySaid r ≡ identityOf (now (image .entry)) ⌝ }
 {
-    if image.len() < IDENTITY_BYTES {
-        return IdentityAnswer::Refused(Refusal::Truncated);
-    }
-    let byte0 = reading::byte_or_zero(image, OFF_SPD_SIZE);
-    let byte1 = reading::byte_or_zero(image, OFF_SPD_REVISION);
-    let byte2 = reading::byte_or_zero(image, OFF_DEVICE_TYPE);
-    let byte3 = reading::byte_or_zero(image, OFF_MODULE_TYPE);
-    let base = match decode_base(byte0, byte1, byte2, byte3) {
+    let bytes = match identity_bytes(image) {
+        IdentityBytesAnswer::Bytes(value) => value,
+        IdentityBytesAnswer::Refused(why) => return IdentityAnswer::Refused(why),
+    };
+    let base = match decode_base(bytes) {
         BaseAnswer::Base(value) => value,
         BaseAnswer::Refused(why) => return IdentityAnswer::Refused(why),
     };
-    let byte4 = reading::byte_or_zero(image, OFF_FIRST_DENSITY_PACKAGE);
-    let byte5 = reading::byte_or_zero(image, OFF_FIRST_ADDRESSING);
-    let byte6 = reading::byte_or_zero(image, OFF_FIRST_IO_WIDTH);
-    let byte7 = reading::byte_or_zero(image, OFF_FIRST_BANK_GROUPS);
-    let sdram = match decode_sdram(byte4, byte5, byte6, byte7) {
+    let sdram = match decode_sdram(bytes) {
         SdramAnswer::Sdram(value) => value,
         SdramAnswer::Refused(why) => return IdentityAnswer::Refused(why),
     };
-    let byte234 = reading::byte_or_zero(image, OFF_MODULE_ORGANIZATION);
-    let byte235 = reading::byte_or_zero(image, OFF_MEMORY_CHANNEL_BUS_WIDTH);
-    let organization = match decode_organization(byte234, byte235) {
+    let organization = match decode_organization(bytes) {
         OrganizationAnswer::Organization(value) => value,
         OrganizationAnswer::Refused(why) => return IdentityAnswer::Refused(why),
     };
@@ -390,52 +401,73 @@ pub fn decode_identity_and_base(image: &[u8]) -> IdentityAnswer
     })
 }
 
-// Bytes 0 to 3. A part is small enough to be compiled into each of its callers, which the whole is not.
-pub fn decode_base(byte0: u8, byte1: u8, byte2: u8, byte3: u8) -> BaseAnswer
-    ensures { λ r. ⌜ baseSaid r ≡ baseOf byte0 byte1 byte2 byte3 ⌝ }
+// The one test of the length, and the bytes.
+pub fn identity_bytes(image: &[u8]) -> IdentityBytesAnswer
+    ensures { λ r. ⌜ identityBytesSaid r ≡ identityBytesOf (now (image .entry)) ⌝ }
 {
-    let spd_bytes_total = match decode_spd_bytes_total(byte0) {
+    if image.len() < IDENTITY_BYTES {
+        return IdentityBytesAnswer::Refused(Refusal::Truncated);
+    }
+    IdentityBytesAnswer::Bytes(IdentityBytes {
+        spd_size: reading::byte_or_zero(image, OFF_SPD_SIZE),
+        spd_revision: reading::byte_or_zero(image, OFF_SPD_REVISION),
+        device_type: reading::byte_or_zero(image, OFF_DEVICE_TYPE),
+        module_type: reading::byte_or_zero(image, OFF_MODULE_TYPE),
+        first_density_package: reading::byte_or_zero(image, OFF_FIRST_DENSITY_PACKAGE),
+        first_addressing: reading::byte_or_zero(image, OFF_FIRST_ADDRESSING),
+        first_io_width: reading::byte_or_zero(image, OFF_FIRST_IO_WIDTH),
+        first_bank_groups: reading::byte_or_zero(image, OFF_FIRST_BANK_GROUPS),
+        module_organization: reading::byte_or_zero(image, OFF_MODULE_ORGANIZATION),
+        memory_channel_bus_width: reading::byte_or_zero(image, OFF_MEMORY_CHANNEL_BUS_WIDTH),
+    })
+}
+
+// Bytes 0 to 3. A part is small enough to be compiled into each of its callers, which the whole is not.
+pub fn decode_base(bytes: IdentityBytes) -> BaseAnswer
+    ensures { λ r. ⌜ baseSaid r ≡ baseOf bytes ⌝ }
+{
+    let spd_bytes_total = match decode_spd_bytes_total(bytes.spd_size) {
         NumberAnswer::Number(value) => value,
         NumberAnswer::Refused(why) => return BaseAnswer::Refused(why),
     };
-    let device_type = match decode_device_type(byte2) {
+    let device_type = match decode_device_type(bytes.device_type) {
         DeviceAnswer::Device(value) => value,
         DeviceAnswer::Refused(why) => return BaseAnswer::Refused(why),
     };
-    let module_type = match decode_module_type(byte3) {
+    let module_type = match decode_module_type(bytes.module_type) {
         ModuleAnswer::Module(value) => value,
         ModuleAnswer::Refused(why) => return BaseAnswer::Refused(why),
     };
     BaseAnswer::Base(Base {
         spd_bytes_total,
-        spd_revision: decode_spd_revision(byte1),
+        spd_revision: decode_spd_revision(bytes.spd_revision),
         device_type,
         module_type,
-        hybrid: decode_hybrid(byte3),
+        hybrid: decode_hybrid(bytes.module_type),
     })
 }
 
 // Bytes 4 to 7.
-pub fn decode_sdram(byte4: u8, byte5: u8, byte6: u8, byte7: u8) -> SdramAnswer
-    ensures { λ r. ⌜ sdramSaid r ≡ sdramOf byte4 byte5 byte6 byte7 ⌝ }
+pub fn decode_sdram(bytes: IdentityBytes) -> SdramAnswer
+    ensures { λ r. ⌜ sdramSaid r ≡ sdramOf bytes ⌝ }
 {
-    let density_per_die = match decode_density_per_die(byte4) {
+    let density_per_die = match decode_density_per_die(bytes.first_density_package) {
         DensityAnswer::Density(value) => value,
         DensityAnswer::Refused(why) => return SdramAnswer::Refused(why),
     };
-    let package = match decode_package(byte4) {
+    let package = match decode_package(bytes.first_density_package) {
         PackageAnswer::Package(value) => value,
         PackageAnswer::Refused(why) => return SdramAnswer::Refused(why),
     };
-    let io_width = match decode_io_width(byte6) {
+    let io_width = match decode_io_width(bytes.first_io_width) {
         IoWidthAnswer::Width(value) => value,
         IoWidthAnswer::Refused(why) => return SdramAnswer::Refused(why),
     };
-    let bank_groups = match decode_bank_groups(byte7) {
+    let bank_groups = match decode_bank_groups(bytes.first_bank_groups) {
         BankGroupsAnswer::Groups(value) => value,
         BankGroupsAnswer::Refused(why) => return SdramAnswer::Refused(why),
     };
-    let banks_per_bank_group = match decode_banks_per_bank_group(byte7) {
+    let banks_per_bank_group = match decode_banks_per_bank_group(bytes.first_bank_groups) {
         BanksAnswer::Banks(value) => value,
         BanksAnswer::Refused(why) => return SdramAnswer::Refused(why),
     };
@@ -444,8 +476,8 @@ pub fn decode_sdram(byte4: u8, byte5: u8, byte6: u8, byte7: u8) -> SdramAnswer
         density_per_die,
         package_type,
         die_count: package.die_count,
-        row_address_bits: decode_row_address_bits(byte5),
-        column_address_bits: decode_column_address_bits(byte5),
+        row_address_bits: decode_row_address_bits(bytes.first_addressing),
+        column_address_bits: decode_column_address_bits(bytes.first_addressing),
         io_width,
         bank_groups,
         banks_per_bank_group,
@@ -453,20 +485,20 @@ pub fn decode_sdram(byte4: u8, byte5: u8, byte6: u8, byte7: u8) -> SdramAnswer
 }
 
 // Bytes 234 and 235.
-pub fn decode_organization(byte234: u8, byte235: u8) -> OrganizationAnswer
-    ensures { λ r. ⌜ organizationSaid r ≡ organizationOf byte234 byte235 ⌝ }
+pub fn decode_organization(bytes: IdentityBytes) -> OrganizationAnswer
+    ensures { λ r. ⌜ organizationSaid r ≡ organizationOf bytes ⌝ }
 {
-    let primary_bus_width_bits = match decode_primary_bus_width(byte235) {
+    let primary_bus_width_bits = match decode_primary_bus_width(bytes.memory_channel_bus_width) {
         NumberAnswer::Number(value) => value,
         NumberAnswer::Refused(why) => return OrganizationAnswer::Refused(why),
     };
-    let channels_per_dimm = match decode_channels_per_dimm(byte235) {
+    let channels_per_dimm = match decode_channels_per_dimm(bytes.memory_channel_bus_width) {
         CountAnswer::Count(value) => value,
         CountAnswer::Refused(why) => return OrganizationAnswer::Refused(why),
     };
     OrganizationAnswer::Organization(Organization {
-        package_ranks_per_channel: decode_package_ranks(byte234),
-        rank_mix_asymmetric: decode_rank_mix(byte234),
+        package_ranks_per_channel: decode_package_ranks(bytes.module_organization),
+        rank_mix_asymmetric: decode_rank_mix(bytes.module_organization),
         channels_per_dimm,
         primary_bus_width_bits,
     })

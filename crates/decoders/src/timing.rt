@@ -3,8 +3,8 @@ ghost use mathlib.Core.Path.{_≡_};
 ghost use Prim.Native.Nat.{_+_, _<_, _*_};
 ghost use Rattle.reading.specs.View.{view};
 ghost use Rattle.decoders.specs.Cas.{casOf, inSet, casListOf, casListAfter};
-ghost use Rattle.decoders.specs.Timing.{le16At, pairAt, casAt, rateOf, timingsOf};
-ghost use Rattle.decoders.specs.Answers.{casListSaid, timingsSaid};
+ghost use Rattle.decoders.specs.Timing.{le16At, pairAt, casAt, rateOf, timesAt, timingReachOf, timingBytesOf, timingsOf};
+ghost use Rattle.decoders.specs.Answers.{casListSaid, reachSaid, timingsSaid};
 use reading::Refusal;
 
 // Byte offsets in the image.
@@ -49,7 +49,7 @@ const OFF_TWTR_S: usize = 88;
 const OFF_TRTP: usize = 91;
 
 // Up to the clock byte of tRTP.
-pub const TIMING_BYTES: usize = 94;
+const TIMING_BYTES: usize = 94;
 
 // A duration in picoseconds: every absolute time is kept so.
 pub struct Picoseconds(pub u32);
@@ -189,14 +189,63 @@ pub enum TimingsAnswer {
     Refused(Refusal),
 }
 
+// Whether an image has the bytes that the timings are read from.
+pub enum TimingReach {
+    Refused(Refusal),
+    Whole,
+}
+
+// Those bytes, from the image's first on; zeros where it does not have them.
+pub struct TimingBytes {
+    pub reach: TimingReach,
+    pub bytes: [u8; 94],
+}
+
 // The base timings of an image. No value is reserved, so a short image is the only refusal.
 pub fn decode_timings(image: &[u8]) -> TimingsAnswer
     ensures { λ r. ⌜ timingsSaid r ≡ timingsOf (now (image .entry)) ⌝ }
 {
-    if image.len() < TIMING_BYTES {
-        return TimingsAnswer::Refused(Refusal::Truncated);
+    let read = timing_bytes(image);
+    let reach = read.reach;
+    match reach {
+        TimingReach::Whole => TimingsAnswer::Decoded(timings_in(read)),
+        TimingReach::Refused(why) => TimingsAnswer::Refused(why),
     }
-    TimingsAnswer::Decoded(Timings {
+}
+
+// The one test of the length. The bytes go by value so that `timings_in` has no test and is compiled into each of its callers, which the
+// whole decoder would not be; no copy of them is left then.
+pub fn timing_bytes(image: &[u8]) -> TimingBytes
+    ensures reach { λ r. ⌜ reachSaid (r .reach) ≡ timingReachOf (now (image .entry)) ⌝ }
+    ensures bytes { λ r. ⌜ r .bytes ≡ timingBytesOf (now (image .entry)) ⌝ }
+{
+    if image.len() < TIMING_BYTES {
+        let reach = TimingReach::Refused(Refusal::Truncated);
+        let bytes = [0u8; 94];
+        return TimingBytes { reach, bytes };
+    }
+    let mut bytes = [0u8; 94];
+    let mut i: usize = 0;
+    while i < TIMING_BYTES {
+        bytes[i] = image[i];
+        i += 1;
+    }
+    let reach = TimingReach::Whole;
+    TimingBytes { reach, bytes }
+}
+
+// The record that the bytes stand for.
+pub fn timings_in(read: TimingBytes) -> Timings
+    ensures { λ r. ⌜ r ≡ timesAt (view (read .bytes)) ⌝ }
+{
+    times(&read.bytes)
+}
+
+// The record of bytes, with 0 past their end.
+fn times(image: &[u8]) -> Timings
+    ensures { λ r. ⌜ r ≡ timesAt (view (now (image .entry))) ⌝ }
+{
+    Timings {
         tckavg_min: ps_units(read_le_u16(image, OFF_TCKAVG_MIN)),
         tckavg_max: ps_units(read_le_u16(image, OFF_TCKAVG_MAX)),
         supported_cas_latencies: decode_cas_latencies(image),
@@ -217,7 +266,7 @@ pub fn decode_timings(image: &[u8]) -> TimingsAnswer
         twtr_l: read_pair(image, OFF_TWTR_L),
         twtr_s: read_pair(image, OFF_TWTR_S),
         trtp: read_pair(image, OFF_TRTP),
-    })
+    }
 }
 
 // A stored 16-bit value that is already in picoseconds.
@@ -256,7 +305,7 @@ fn read_pair(image: &[u8], offset: usize) -> TimingPair
 }
 
 // The five bytes of the CAS latencies as a set.
-pub fn decode_cas_latencies(image: &[u8]) -> CasLatencies
+fn decode_cas_latencies(image: &[u8]) -> CasLatencies
     ensures { λ r. ⌜ r ≡ casAt (view (now (image .entry))) 24 ⌝ }
 {
     CasLatencies::from_bytes(

@@ -1,18 +1,17 @@
 -- Records as lists of numbers, in the order that station/roostcord.h gives, and a lent list of numbers after a call. Assumes nothing.
-use Prim.Native.Nat.{ℕ, _*_, _/_, _%_}
+use Prim.Native.Nat.{ℕ, _/_, _%_}
 use mathlib.Core.Bool.{Bool, true, false}
 use mathlib.Core.List.{List, [], _∷_}
 use lib.Dec.{ltb}
 use lib.ListN.{length}
 use Rattle.reading.specs.Pick.{pick}
-use Rattle.reading.specs.View.{View}
 use Rattle.reading.specs.Said.{Said, gives, refuses, refused, onward}
 use Rattle.reading.specs.Lent.{laid}
 use Rattle.decoders.specs.Codes.{deviceCode, moduleCode, gigabitsIn, packageCode, bitsIn, groupsIn, banksIn}
 use Rattle.decoders.specs.Cas.{casList}
 use Rattle.decoders.specs.Identity.{identityOf}
-use Rattle.decoders.specs.Timing.{le16At, timingsOf, rateOf}
-use Rattle.decoders.specs.Clocks.{clocksOf, clockTableOf}
+use Rattle.decoders.specs.Timing.{timingsOf, rateOf}
+use Rattle.decoders.specs.Clocks.{clockTableOf}
 use Rattle.findings.specs.declared.Finding.{Finding}
 use Rattle.rules.specs.Lanes.{severityNumber}
 use Rattle.report.specs.Read.{Content, contentOf}
@@ -77,21 +76,6 @@ timingNumbers t =
 -- nine numbers
 abbrev pub clockNumbers : ClockTable → List ℕ
 clockNumbers c = c .taa ∷ c .trcd ∷ c .trp ∷ c .tras ∷ c .trc ∷ c .twr ∷ c .trfc1 ∷ c .trfc2 ∷ c .trfcsb ∷ []
-
--- the table of an image, for a cycle time
-abbrev pub clocksAt : (tck : ℕ) → View → ClockTable
-clocksAt tck v =
-    record {
-      taa = clocksOf tck (le16At v 30);
-      trcd = clocksOf tck (le16At v 32);
-      trp = clocksOf tck (le16At v 34);
-      tras = clocksOf tck (le16At v 36);
-      trc = clocksOf tck (le16At v 38);
-      twr = clocksOf tck (le16At v 40);
-      trfc1 = clocksOf tck (le16At v 42 * 1000);
-      trfc2 = clocksOf tck (le16At v 44 * 1000);
-      trfcsb = clocksOf tck (le16At v 46 * 1000);
-    }
 
 -- a report: its flags, and six numbers for each finding
 abbrev pub findingNumbers : List Finding → List ℕ

@@ -7,26 +7,24 @@ ghost use lib.ListN.{length, take};
 ghost use Rattle.reading.specs.Pick.{pick};
 ghost use Rattle.reading.specs.Said.{told};
 ghost use Rattle.reading.specs.Lent.{laid};
-ghost use Rattle.decoders.specs.Parts.{wholeOf};
-ghost use Rattle.decoders.specs.Clocks.{clocksOf};
-ghost use Rattle.decoders.specs.Timing.{le16At, timesAt};
-ghost use Rattle.reading.specs.View.{view};
+ghost use Rattle.decoders.specs.Identity.{wholeOf};
 ghost use Rattle.rules.specs.Lanes.{severityNumber};
-ghost use Rattle.pieces.specs.Fed.{longest};
 ghost use Rattle.report.specs.Write.{lintReportOf, lintReportAfter};
 ghost use Rattle.roostcord.specs.Word.{refusalWord, wordOf};
-ghost use Rattle.roostcord.specs.Numbers.{identityNumbers, timingNumbers, clockNumbers, clocksAt, reportNumbers, identityList, timingsList, casNumbers, clocksList, reportList, listedIn, listAfter};
+ghost use Rattle.roostcord.specs.Numbers.{identityNumbers, timingNumbers, clockNumbers, reportNumbers, identityList, timingsList, casNumbers, clocksList, reportList, listedIn, listAfter};
 ghost use Rattle.roostcord.specs.State.{stateSize, countIn, arrivedIn, asked, short, freshIn, freshAfter, feedIn, feedAfter, takenIn};
+use decoders::clocks::ClockTable;
+use decoders::clocks::ClockTableAnswer;
 use decoders::identity::Base;
 use decoders::identity::BaseAnswer;
-use decoders::identity::IDENTITY_BYTES;
+use decoders::identity::IdentityBytesAnswer;
 use decoders::identity::Organization;
 use decoders::identity::OrganizationAnswer;
 use decoders::identity::Sdram;
 use decoders::identity::SdramAnswer;
 use decoders::timing::CasListAnswer;
-use decoders::timing::Picoseconds;
-use decoders::timing::TIMING_BYTES;
+use decoders::timing::TimingReach;
+use decoders::timing::Timings;
 use findings::Findings;
 use findings::Severity;
 use pieces::FeedAnswer;
@@ -81,28 +79,19 @@ pub extern "C" fn roostcord_identity(image: &[u8], out: &mut [u32]) -> i32
     if out.len() < 18 {
         return refusal_word(Refusal::ListTooShort);
     }
-    if image.len() < IDENTITY_BYTES {
-        return refusal_word(Refusal::Truncated);
-    }
-    let byte0 = reading::byte_or_zero(image, 0);
-    let byte1 = reading::byte_or_zero(image, 1);
-    let byte2 = reading::byte_or_zero(image, 2);
-    let byte3 = reading::byte_or_zero(image, 3);
-    let base = match decoders::identity::decode_base(byte0, byte1, byte2, byte3) {
+    let bytes = match decoders::identity::identity_bytes(image) {
+        IdentityBytesAnswer::Bytes(value) => value,
+        IdentityBytesAnswer::Refused(why) => return refusal_word(why),
+    };
+    let base = match decoders::identity::decode_base(bytes) {
         BaseAnswer::Base(part) => part,
         BaseAnswer::Refused(why) => return refusal_word(why),
     };
-    let byte4 = reading::byte_or_zero(image, 4);
-    let byte5 = reading::byte_or_zero(image, 5);
-    let byte6 = reading::byte_or_zero(image, 6);
-    let byte7 = reading::byte_or_zero(image, 7);
-    let sdram = match decoders::identity::decode_sdram(byte4, byte5, byte6, byte7) {
+    let sdram = match decoders::identity::decode_sdram(bytes) {
         SdramAnswer::Sdram(part) => part,
         SdramAnswer::Refused(why) => return refusal_word(why),
     };
-    let byte234 = reading::byte_or_zero(image, 234);
-    let byte235 = reading::byte_or_zero(image, 235);
-    let organization = match decoders::identity::decode_organization(byte234, byte235) {
+    let organization = match decoders::identity::decode_organization(bytes) {
         OrganizationAnswer::Organization(part) => part,
         OrganizationAnswer::Refused(why) => return refusal_word(why),
     };
@@ -119,11 +108,15 @@ pub extern "C" fn roostcord_timings(image: &[u8], out: &mut [u32]) -> i32
     if out.len() < 30 {
         return refusal_word(Refusal::ListTooShort);
     }
-    if image.len() < TIMING_BYTES {
-        return refusal_word(Refusal::Truncated);
+    let read = decoders::timing::timing_bytes(image);
+    let reach = read.reach;
+    match reach {
+        TimingReach::Whole => {
+            put_timings(decoders::timing::timings_in(read), out);
+            30
+        }
+        TimingReach::Refused(why) => refusal_word(why),
     }
-    put_timings(image, out);
-    30
 }
 
 // The supported CAS latencies of an image, ascending: up to forty numbers.
@@ -135,13 +128,18 @@ pub extern "C" fn roostcord_cas_latencies(image: &[u8], out: &mut [u16]) -> i32
     if out.len() < 40 {
         return refusal_word(Refusal::ListTooShort);
     }
-    if image.len() < TIMING_BYTES {
-        return refusal_word(Refusal::Truncated);
-    }
-    let set = decoders::timing::decode_cas_latencies(image);
-    match set.list(out) {
-        CasListAnswer::Listed(n) => count_word(n),
-        CasListAnswer::Refused(why) => refusal_word(why),
+    let read = decoders::timing::timing_bytes(image);
+    let reach = read.reach;
+    match reach {
+        TimingReach::Whole => {
+            let t = decoders::timing::timings_in(read);
+            let set = t.supported_cas_latencies;
+            match set.list(out) {
+                CasListAnswer::Listed(n) => count_word(n),
+                CasListAnswer::Refused(why) => refusal_word(why),
+            }
+        }
+        TimingReach::Refused(why) => refusal_word(why),
     }
 }
 
@@ -154,15 +152,20 @@ pub extern "C" fn roostcord_clocks(image: &[u8], out: &mut [u32]) -> i32
     if out.len() < 9 {
         return refusal_word(Refusal::ListTooShort);
     }
-    if image.len() < TIMING_BYTES {
-        return refusal_word(Refusal::Truncated);
+    let read = decoders::timing::timing_bytes(image);
+    let reach = read.reach;
+    match reach {
+        TimingReach::Whole => match decoders::clocks::clock_table(decoders::timing::timings_in(
+            read,
+        )) {
+            ClockTableAnswer::Table(c) => {
+                put_clocks(c, out);
+                9
+            }
+            ClockTableAnswer::Refused(why) => refusal_word(why),
+        },
+        TimingReach::Refused(why) => refusal_word(why),
     }
-    let tck = ps(image, 20);
-    if tck == 0 {
-        return refusal_word(Refusal::ZeroClock);
-    }
-    put_clocks(image, tck, out);
-    9
 }
 
 // Makes the first bytes a state that has taken nothing.
@@ -361,112 +364,62 @@ fn put_identity(base: Base, sdram: Sdram, organization: Organization, out: &mut 
     put(&numbers, out);
 }
 
-// The timings straight from an image that is long enough for them; no record is made.
-fn put_timings(image: &[u8], out: &mut [u32])
+fn put_timings(t: Timings, out: &mut [u32])
     requires { ⌜ 30 ≤ length (now out) ⌝ }
-    ensures { λ _. ⌜ now (out .exit) ≡ laid (timingNumbers (timesAt (view (now (image .entry))))) (now (out .entry)) ⌝ }
+    ensures { λ _. ⌜ now (out .exit) ≡ laid (timingNumbers t) (now (out .entry)) ⌝ }
 {
-    let tck = ps(image, 20);
-    let set = decoders::timing::decode_cas_latencies(image);
-    let mask = set.0;
+    let mask = t.supported_cas_latencies.0;
     let numbers = [
-        // tCKAVGmin and tCKAVGmax; the CAS latencies, low half first.
-        tck,
-        ps(image, 22),
+        t.tckavg_min.0,
+        t.tckavg_max.0,
         (mask % 4294967296) as u32,
         (mask / 4294967296 % 256) as u32,
-        // tAA, tRCD, tRP, tRAS, tRC, tWR.
-        ps(image, 30),
-        ps(image, 32),
-        ps(image, 34),
-        ps(image, 36),
-        ps(image, 38),
-        ps(image, 40),
-        // tRFC1, tRFC2, tRFCsb.
-        ns(image, 42),
-        ns(image, 44),
-        ns(image, 46),
-        // tRRD_L.
-        ps(image, 70),
-        clocks(image, 72),
-        // tCCD_L.
-        ps(image, 73),
-        clocks(image, 75),
-        // tCCD_L_WR.
-        ps(image, 76),
-        clocks(image, 78),
-        // tCCD_L_WR2.
-        ps(image, 79),
-        clocks(image, 81),
-        // tFAW.
-        ps(image, 82),
-        clocks(image, 84),
-        // tWTR_L.
-        ps(image, 85),
-        clocks(image, 87),
-        // tWTR_S.
-        ps(image, 88),
-        clocks(image, 90),
-        // tRTP.
-        ps(image, 91),
-        clocks(image, 93),
-        decoders::timing::data_rate_mt_s(Picoseconds(tck)),
+        t.taa.0,
+        t.trcd.0,
+        t.trp.0,
+        t.tras.0,
+        t.trc.0,
+        t.twr.0,
+        t.trfc1.0,
+        t.trfc2.0,
+        t.trfcsb.0,
+        t.trrd_l.time.0,
+        t.trrd_l.clocks.0 as u32,
+        t.tccd_l.time.0,
+        t.tccd_l.clocks.0 as u32,
+        t.tccd_l_wr.time.0,
+        t.tccd_l_wr.clocks.0 as u32,
+        t.tccd_l_wr2.time.0,
+        t.tccd_l_wr2.clocks.0 as u32,
+        t.tfaw.time.0,
+        t.tfaw.clocks.0 as u32,
+        t.twtr_l.time.0,
+        t.twtr_l.clocks.0 as u32,
+        t.twtr_s.time.0,
+        t.twtr_s.clocks.0 as u32,
+        t.trtp.time.0,
+        t.trtp.clocks.0 as u32,
+        t.base_data_rate_mt_s(),
     ];
     put(&numbers, out);
 }
 
-// A stored time in picoseconds, one in nanoseconds, and a count of clocks.
-fn ps(image: &[u8], offset: usize) -> u32
-    requires { ⌜ offset < longest ⌝ }
-    ensures { λ r. ⌜ (r ≡ le16At (view (now (image .entry))) offset) × (r < 65536) ⌝ }
-{
-    let low = reading::byte_or_zero(image, offset);
-    let high = reading::byte_or_zero(image, offset + 1);
-    (low as u32) + (high as u32) * 256
-}
-
-fn ns(image: &[u8], offset: usize) -> u32
-    requires { ⌜ offset < longest ⌝ }
-    ensures { λ r. ⌜ r ≡ le16At (view (now (image .entry))) offset * 1000 ⌝ }
-{
-    ps(image, offset) * 1000
-}
-
-fn clocks(image: &[u8], offset: usize) -> u32
-    ensures { λ r. ⌜ r ≡ view (now (image .entry)) .byte offset ⌝ }
-{
-    reading::byte_or_zero(image, offset) as u32
-}
-
-// The clock table of such an image, whose cycle time is not 0: the nine times from tAA to tRFCsb.
-fn put_clocks(image: &[u8], tck: u32, out: &mut [u32])
-    requires { ⌜ (0 < tck) × (9 ≤ length (now out)) ⌝ }
-    ensures { λ _. ⌜ now (out .exit) ≡ laid (clockNumbers (clocksAt tck (view (now (image .entry))))) (now (out .entry)) ⌝ }
+fn put_clocks(c: ClockTable, out: &mut [u32])
+    requires { ⌜ 9 ≤ length (now out) ⌝ }
+    ensures { λ _. ⌜ now (out .exit) ≡ laid (clockNumbers c) (now (out .entry)) ⌝ }
 {
     let numbers = [
-        cycles(ps(image, 30), tck),
-        cycles(ps(image, 32), tck),
-        cycles(ps(image, 34), tck),
-        cycles(ps(image, 36), tck),
-        cycles(ps(image, 38), tck),
-        cycles(ps(image, 40), tck),
-        cycles(ns(image, 42), tck),
-        cycles(ns(image, 44), tck),
-        cycles(ns(image, 46), tck),
+        c.taa,
+        c.trcd,
+        c.trp,
+        c.tras,
+        c.trc,
+        c.twr,
+        c.trfc1,
+        c.trfc2,
+        c.trfcsb,
     ];
     put(&numbers, out);
-}
-
-// The smallest n with n * tck at or above the time.
-fn cycles(time: u32, tck: u32) -> u32
-    requires { ⌜ 0 < tck ⌝ }
-    ensures { λ r. ⌜ r ≡ clocksOf tck time ⌝ }
-{
-    let whole = time / tck;
-    if time % tck == 0 {
-        return whole;
-    }
-    whole + 1
 }
 
 // The numbers of a report, laid into a list that has room for the most.

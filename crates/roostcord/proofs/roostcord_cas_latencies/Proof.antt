@@ -7,15 +7,14 @@ use native.Mathlib.Omega.{arith}
 use lib.IntN.{pos}
 use lib.ListN.{length}
 use borrow.Author.Needs.{needs}
-use borrow.Author.Tests.{lt-ltb, le-ltb}
+use borrow.Author.Tests.{le-ltb}
 use Rattle.reading.specs.Lent.{laid}
-use Rattle.reading.specs.View.{view}
-use Rattle.reading.specs.Said.{Told, gives, refuses, refused}
+use Rattle.reading.specs.Said.{Told, gives, refuses, told}
 use Rattle.decoders.specs.Answers.{casListSaid}
-use Rattle.decoders.specs.Timing.{casAt, timingsOf}
 use Rattle.decoders.specs.Cas.{casList, casListOf, casListAfter}
 use Rattle.decoders.specs.declared.timing.CasLatencies.{CasLatencies}
 use Rattle.decoders.proofs.Listing.{few}
+use Rattle.decoders.proofs.Read.{timings-read, timings-refused}
 use Rattle.roostcord.specs.Numbers.{casNumbers}
 use Rattle.roostcord.proofs.Words.{handed}
 use Rattle.roostcord.proofs.Answers.{found, no-room, not-listed, listed}
@@ -45,13 +44,8 @@ module _ (set : CasLatencies) (out : List ℕ) (room : 40 ≤ length out) where
   unfolding casListAfter
   later = rw (le-ltb (length out) 40 room)
 
--- the set that was read is the definition's
-read : {set : CasLatencies} (s : List ℕ) → 94 ≤ length s → set ≡ casAt (view s) 24 → casNumbers s ≡ gives (casList set)
-unfolding casNumbers timingsOf
-read s h e = rw (le-ltb (length s) 94 h, e)
-
 pub roostcord-cas-latencies-spec : {M : Type 1} → statement M
-unfolding casNumbers timingsOf
+unfolding casNumbers
 roostcord-cas-latencies-spec =
     tie.close
     (tie.spec
@@ -60,27 +54,39 @@ roostcord-cas-latencies-spec =
     let a = c .before .before .before .before .args in
     no-room 40 (casNumbers (a .image .now)) (a .out .now) (c .before .if1 .taken) (handed (c .refusal-word .ok) (c .refusal-word .ensures)))
     (λ c κs. search needs)
-    (λ c.
-    let a = c .before .before .before .before .before .args in
-    let e : casNumbers (a .image .now) ≡ refused 1 0 0 = simp (lt-ltb _ _ (c .before .if2 .taken)) in
-    not-listed 40 (casNumbers (a .image .now)) (a .out .now) (c .before .before .if1 .left) e (handed (c .refusal-word2 .ok) (c .refusal-word2 .ensures)))
+    (λ c. search needs)
     (λ c κs. search needs)
     (λ c κs. search needs)
     (λ c. search needs)
     (λ c κs.
-    let p = c .before .before .before .before .before .before .before .before in
-    small _ (p .before .before .before .before .args .out .now) (p .before .if1 .left) (found casListSaid (c .before .before .before .before .before .list .ensures .0) (c .before .n .given .1)))
+    let l = c .before .before .before .before .before in
+    let b = l .before .before .before .before .before .before in
+    small (l .before .before .before .timings-in .result .«supported_cas_latencies») (b .before .before .before .before .args .out .now) (b .before .if1 .left) (found casListSaid (l .list .ensures .0) (c .before .n .given .1)))
+    (λ c. search needs)
+    (λ c κs. search needs)
     (λ c. search needs)
     (λ c κs. search needs)
     (λ c. search needs)
     (λ c.
-    let p = c .before .before .before .before .before .before .before .before in
-    let a = p .before .before .before .before .before .args in
-    let h = p .before .before .if1 .left in
-    listed 40 (casNumbers (a .image .now)) (a .out .now) h (read (a .image .now) (p .before .if2 .left) (p .decode-cas-latencies .ensures))
-    (handed (c .count-word .ok) (c .count-word .ensures ∙ ap pos (count _ (a .out .now) h (found casListSaid (c .before .before .before .before .before .before .list .ensures .0) (c .before .before .n .given .1)))))
-    (c .before .before .before .before .before .before .list .ensures .1 ∙ later _ (a .out .now) h))
+    let l = c .before .before .before .before .before .before in
+    let t = l .before .before .before .timings-in in
+    let m = l .before .before .before .before in
+    let b = m .before .before in
+    let a = b .before .before .before .before .args in
+    let h = b .before .if1 .left in
+    let set = t .result .«supported_cas_latencies» in
+    let e : casNumbers (a .image .now) ≡ gives (casList set) = rw (timings-read (a .image .now) (b .timing-bytes .ensures .0) (m .enum-told .given .1) (b .timing-bytes .ensures .1) (t .ensures)) in
+    listed 40 (casNumbers (a .image .now)) (a .out .now) h e
+    (handed (c .count-word .ok) (c .count-word .ensures ∙ ap pos (count set (a .out .now) h (found casListSaid (l .list .ensures .0) (c .before .before .n .given .1)))))
+    (l .list .ensures .1 ∙ later set (a .out .now) h))
     (λ c. search needs)
     (λ c.
-    let p = c .before .before .before .before .before .before .before .before in
-    absurd (never _ (p .before .before .before .before .before .args .out .now) (p .before .before .if1 .left) (found casListSaid (c .before .before .before .before .before .before .list .ensures .0) (c .before .before .why .given .1)))))
+    let l = c .before .before .before .before .before .before in
+    let b = l .before .before .before .before .before .before in
+    absurd (never (l .before .before .before .timings-in .result .«supported_cas_latencies») (b .before .before .before .before .args .out .now) (b .before .if1 .left) (found casListSaid (l .list .ensures .0) (c .before .before .why .given .1))))
+    (λ c.
+    let m = c .before .before in
+    let b = m .before .before in
+    let a = b .before .before .before .before .args in
+    let e : casNumbers (a .image .now) ≡ refuses (told (m .reach .given .0 .0)) = rw (timings-refused (a .image .now) (b .timing-bytes .ensures .0) (m .reach .given .1)) in
+    not-listed 40 (casNumbers (a .image .now)) (a .out .now) (b .before .if1 .left) e (handed (c .refusal-word3 .ok) (c .refusal-word3 .ensures))))

@@ -2,8 +2,8 @@
 -- `baseOf` is rewritten by those of the fields before it, and the record is a path of records. Assumes nothing.
 use borrow.Author.Needs.{needs}
 use Rattle.reading.specs.Said.{gives}
-use Rattle.decoders.specs.Answers.{deviceSaid, moduleSaid, numberSaid}
-use Rattle.decoders.specs.Parts.{baseOf}
+use Rattle.decoders.specs.Fields.{deviceSaid, moduleSaid, numberSaid}
+use Rattle.decoders.specs.Identity.{baseOf}
 use Rattle.decoders.proofs.Fields.{said}
 use Rattle.decoders.proofs.identity.decode_base.Statement.{statement}
 use Rattle.decoders.proofs.identity.decode_base.Tie as tie

@@ -2,8 +2,8 @@
 -- `organizationOf` is rewritten by those of the fields before it, and the record is a path of records. Assumes nothing.
 use borrow.Author.Needs.{needs}
 use Rattle.reading.specs.Said.{gives}
-use Rattle.decoders.specs.Answers.{countSaid, numberSaid}
-use Rattle.decoders.specs.Parts.{organizationOf}
+use Rattle.decoders.specs.Fields.{countSaid, numberSaid}
+use Rattle.decoders.specs.Identity.{organizationOf}
 use Rattle.decoders.proofs.Fields.{said}
 use Rattle.decoders.proofs.identity.decode_organization.Statement.{statement}
 use Rattle.decoders.proofs.identity.decode_organization.Tie as tie

@@ -2,8 +2,8 @@
 -- `sdramOf` is rewritten by those of the fields before it, and the record is a path of records. Assumes nothing.
 use borrow.Author.Needs.{needs}
 use Rattle.reading.specs.Said.{gives}
-use Rattle.decoders.specs.Answers.{bankGroupsSaid, banksSaid, densitySaid, ioWidthSaid, packageSaid}
-use Rattle.decoders.specs.Parts.{sdramOf}
+use Rattle.decoders.specs.Fields.{bankGroupsSaid, banksSaid, densitySaid, ioWidthSaid, packageSaid}
+use Rattle.decoders.specs.Identity.{sdramOf}
 use Rattle.decoders.proofs.Fields.{said}
 use Rattle.decoders.proofs.identity.decode_sdram.Statement.{statement}
 use Rattle.decoders.proofs.identity.decode_sdram.Tie as tie

@@ -1,0 +1,39 @@
+-- The timings of an image are those of the bytes that are read from it, and it has none where it does not have the bytes. Assumes nothing.
+use mathlib.Core.Path.{_≡_, refl, ap, sym, _∙_}
+use mathlib.Core.List.{List, [], _∷_, _++_}
+use Prim.Native.Nat.{ℕ, suc, _<_}
+use lib.ListN.{length, take, set, getD}
+use lib.Seq.{take-suc, take-suc-set}
+use Rattle.reading.specs.View.{view}
+use Rattle.reading.specs.Said.{Said, gives, refuses, told, onward}
+use Rattle.reading.specs.declared.Refusal.{Refusal}
+use Rattle.reading.proofs.Picked.{by-test}
+use Rattle.reading.proofs.Clip.{within}
+use Rattle.decoders.specs.Answers.{reachSaid}
+use Rattle.decoders.specs.Timing.{le16At, pairAt, casAt, timesAt, timingReachOf, timingBytesOf, timingsOf}
+use Rattle.decoders.specs.declared.timing.Timings.{Timings}
+use Rattle.decoders.specs.declared.timing.TimingReach.{TimingReach}
+use Rattle.decoders.specs.declared.timing.TimingReach.the-variants as reach
+use Rattle.decoders.proofs.Fields.{said}
+
+-- one byte more of s is copied to b
+pub one-more : (b s : List ℕ) (i : ℕ) → i < length b → i < length s → take i b ≡ take i s → take (suc i) (set b i (getD s i 0)) ≡ take (suc i) s
+one-more b s i h k e = take-suc-set b i (getD s i 0) h ∙ ap (_++ (getD s i 0 ∷ [])) e ∙ sym (take-suc s i 0 k)
+
+module _ (s : List ℕ) where
+  in-bytes : timingsOf s ≡ onward refuses (timingReachOf s) (λ _. gives (timesAt (view (timingBytesOf s))))
+  unfolding timingsOf timingReachOf timingBytesOf le16At pairAt casAt
+  in-bytes = by-test (view s .below 94)
+      (λ e. rw e)
+      (λ e. rw e (ap gives (sym (within timesAt 94 (λ v. refl) s))))
+
+  -- what a caller has of `timing_bytes` and `timings_in`
+  module _ {r : TimingReach} (p : reachSaid r ≡ timingReachOf s) where
+    pub timings-read : r ≡ reach.Whole → {b : List ℕ} → b ≡ timingBytesOf s → {t : Timings} → t ≡ timesAt (view b) → timingsOf s ≡ gives t
+    timings-read q e f =
+        in-bytes
+        ∙ ap (λ (x : Said (Unit {0})). onward refuses x (λ _. gives (timesAt (view (timingBytesOf s))))) (said reachSaid p q)
+        ∙ ap gives (sym (f ∙ ap (λ (l : List ℕ). timesAt (view l)) e))
+
+    pub timings-refused : {why : Refusal} → r ≡ reach.Refused why → timingsOf s ≡ refuses (told why)
+    timings-refused q = in-bytes ∙ ap (λ (x : Said (Unit {0})). onward refuses x (λ _. gives (timesAt (view (timingBytesOf s))))) (said reachSaid p q)

@@ -1,0 +1,43 @@
+-- `decoders::timing::timing_bytes` meets its contract. The loop's invariant: the first i bytes are those of the image. Assumes nothing.
+use Prim.Native.Nat.{_-_, _≤_}
+use mathlib.Core.Path.{_≡_, refl, sym, _∙_}
+use native.Mathlib.Omega.{arith}
+use native.Mathlib.Numerals.{add-one}
+use lib.ListN.{length, take}
+use lib.Seq.{take-all}
+use borrow.Author.Needs.{needs}
+use borrow.Author.Tests.{lt-ltb, le-ltb}
+use Rattle.decoders.specs.Timing.{timingReachOf, timingBytesOf}
+use Rattle.decoders.proofs.Read.{one-more}
+use Rattle.decoders.proofs.timing.timing_bytes.Statement.{statement}
+use Rattle.decoders.proofs.timing.timing_bytes.Tie as tie
+
+abbrev Inv-loop : tie.InvT-loop
+Inv-loop image bytes₀ i₀ bytes i = (i ≤ 94) × (length bytes ≡ 94) × (take i bytes ≡ take i image)
+
+abbrev μ-loop : tie.MeasureT-loop
+μ-loop image bytes₀ i₀ bytes i = 94 - i
+
+pub timing-bytes-spec : {M : Type 1} → statement M
+unfolding timingReachOf timingBytesOf
+timing-bytes-spec =
+    tie.close
+    (tie.spec
+    Inv-loop
+    μ-loop
+    (λ c. simp (lt-ltb _ _ (c .if1 .taken)) (refl, refl))
+    (λ c. (search needs, refl, refl))
+    (λ c. search needs)
+    (λ c. search needs)
+    (λ c. search needs)
+    (λ c. search needs)
+    (λ c.
+    let l = c .before .before .loop in
+    let s = c .before .before .before .before .args .image .now in
+    (search needs, search needs, rw add-one (one-more (l .bytes) s (l .i) (omega arith) (omega (arith, c .before .before .before .if1 .left)) (l .inv .2))))
+    (λ c.
+    let l = c .before .loop in
+    let s = c .before .before .before .args .image .now in
+    let e : l .i ≡ 94 = omega arith in
+    simp (le-ltb _ _ (c .before .before .if1 .left))
+    (refl, sym (take-all 94 (l .bytes) (omega arith)) ∙ (rw e at (l .inv .2)))))
