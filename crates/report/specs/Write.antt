@@ -62,7 +62,7 @@ flagsOf identity timings = flagsFor (identitySaid identity) (timingsSaid timings
 unfoldable pub lintReportOf : List ℕ → (room : ℕ) → Said ℕ
 lintReportOf s room = fitted (length (findingsOf s)) room
 
--- the whole answer: what both decoders say of the image, and of its report
+-- the whole answer: what each decoder says of the image, its refusal with number and values included, and the bytes written
 pub record Reported : Type 0 where
   pub identity : Said IdentityAndBase
   pub timings : Said Timings

@@ -95,7 +95,7 @@ fn write_fitting(flags: u8, found: Findings, out: &mut [u8]) -> WriteAnswer
     WriteAnswer::Bytes(size)
 }
 
-// Lints an image and writes its report. What linting finds is always the form's, so want of room is the only refusal.
+// Lints an image and writes its report. What linting finds is always the form's, so want of room is the report's only refusal.
 pub fn lint_report(image: &[u8], out: &mut [u8]) -> LintReport
     ensures answer { λ r. ⌜ lintReportSaid r ≡ reportedOf (now (image .entry)) (length (now (out .entry))) ⌝ }
     ensures later { λ r. ⌜ now (out .exit) ≡ lintReportAfter (now (image .entry)) (now (out .entry)) ⌝ }
