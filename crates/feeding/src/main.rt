@@ -89,7 +89,7 @@ fn sample() -> [u8; 512] {
     image
 }
 
-// How many bytes are as the one that stands `apart` further on.
+// How many bytes are as the one that stands `apart` further on: a shift by so many would not show in them.
 fn alike(image: &[u8], apart: usize) -> usize {
     let mut same: usize = 0;
     let mut i: usize = 0;
@@ -331,6 +331,9 @@ fn beside(a: Answers, b: Answers) -> Differing {
 }
 
 fn same(a: Answers, b: Answers) -> bool {
+    if a.findings.count != b.findings.count {
+        return false;
+    }
     let d = beside(a, b);
     if d.identity != 0 {
         return false;
