@@ -1,6 +1,7 @@
 -- The code tables of document 01, "Identity": what each code of a field stands for. A code outside its table is refused by 3, with the
 -- field's number and the code. Assumes nothing.
 use Prim.Native.Nat.{ℕ, _/_, _%_}
+use mathlib.Core.List.{List, [], _∷_}
 use lib.Dec.{eqb}
 use Rattle.reading.specs.Pick.{pick}
 use Rattle.reading.specs.Said.{Said, gives, refused}
@@ -21,18 +22,14 @@ use Rattle.decoders.specs.declared.identity.BankGroups.the-variants as g
 use Rattle.decoders.specs.declared.identity.BanksPerBankGroup.{BanksPerBankGroup}
 use Rattle.decoders.specs.declared.identity.BanksPerBankGroup.the-variants as banks
 
--- a row of a table: x where the code is k, and else what the rows below say
-abbrev pub entry : {A : Type 0} (code k : ℕ) → A → Said A → Said A
-entry code k x below = pick (eqb code k) (gives x) below
+-- a field's table, as codes with what they stand for; any other code is refused by 3, with the field's number and the code
+abbrev pub meant : {A : Type 0} (field : ℕ) → List (ℕ × A) → (code : ℕ) → Said A
+meant field [] code = refused 3 field code
+meant field ((k, x) ∷ rows) code = pick (eqb code k) (gives x) (meant field rows code)
 
 -- field 1, byte 0, bits 6-4: SPD bytes
 unfoldable pub sizeOf : ℕ → Said ℕ
-sizeOf code =
-    entry code 1 256
-    (entry code 2 512
-    (entry code 3 1024
-    (entry code 4 2048
-    (refused 3 1 code))))
+sizeOf code = meant 1 ((1, 256) ∷ (2, 512) ∷ (3, 1024) ∷ (4, 2048) ∷ []) code
 
 -- byte 1: major in the high four bits
 abbrev pub revisionOf : ℕ → SpdRevision
@@ -40,90 +37,49 @@ revisionOf byte1 = record { major = byte1 / 16; minor = byte1 % 16 }
 
 -- byte 2: 0x12 is DDR5; any other is refused by 2, with the byte
 unfoldable pub deviceOf : ℕ → Said DeviceType
-deviceOf byte2 = entry byte2 0x12 Ddr5 (refused 2 byte2 0)
+deviceOf byte2 = pick (eqb byte2 0x12) (gives Ddr5) (refused 2 byte2 0)
 
 -- field 2, byte 3, bits 3-0: module type
 unfoldable pub moduleOf : ℕ → Said ModuleType
 moduleOf code =
-    entry code 1 Rdimm
-    (entry code 2 Udimm
-    (entry code 3 Sodimm
-    (entry code 4 Lrdimm
-    (entry code 5 Cudimm
-    (entry code 6 Csoudimm
-    (entry code 7 Mrdimm
-    (entry code 8 Camm2
-    (entry code 10 Ddimm
-    (entry code 11 SolderDown
-    (refused 3 2 code))))))))))
+    meant 2 (
+    (1, Rdimm) ∷ (2, Udimm) ∷ (3, Sodimm) ∷ (4, Lrdimm) ∷ (5, Cudimm) ∷ (6, Csoudimm) ∷ (7, Mrdimm) ∷ (8, Camm2)
+    ∷ (10, Ddimm) ∷ (11, SolderDown) ∷ []) code
 
 -- field 3, byte 4, bits 4-0: gigabits per die
 unfoldable pub densityOf : ℕ → Said DensityPerDie
 densityOf code =
-    entry code 1 Gb4
-    (entry code 2 Gb8
-    (entry code 3 Gb12
-    (entry code 4 Gb16
-    (entry code 5 Gb24
-    (entry code 6 Gb32
-    (entry code 7 Gb48
-    (entry code 8 Gb64
-    (refused 3 3 code))))))))
+    meant 3 ((1, Gb4) ∷ (2, Gb8) ∷ (3, Gb12) ∷ (4, Gb16) ∷ (5, Gb24) ∷ (6, Gb32) ∷ (7, Gb48) ∷ (8, Gb64) ∷ []) code
 
 -- field 4, byte 4, bits 7-5: package and dies
+abbrev pub packed : PackageType → (dies : ℕ) → Package
+packed p dies = record { «package_type» = p; «die_count» = dies }
+
 unfoldable pub packageOf : ℕ → Said Package
 packageOf code =
-    entry code 0 (record { «package_type» = Monolithic; «die_count» = 1 })
-    (entry code 1 (record { «package_type» = DualDie; «die_count» = 2 })
-    (entry code 2 (record { «package_type» = ThreeDs; «die_count» = 2 })
-    (entry code 3 (record { «package_type» = ThreeDs; «die_count» = 4 })
-    (entry code 4 (record { «package_type» = ThreeDs; «die_count» = 8 })
-    (entry code 5 (record { «package_type» = ThreeDs; «die_count» = 16 })
-    (refused 3 4 code))))))
+    meant 4 (
+    (0, packed Monolithic 1) ∷ (1, packed DualDie 2)
+    ∷ (2, packed ThreeDs 2) ∷ (3, packed ThreeDs 4) ∷ (4, packed ThreeDs 8) ∷ (5, packed ThreeDs 16) ∷ []) code
 
 -- field 5, byte 6, bits 7-5: I/O width
 unfoldable pub ioWidthOf : ℕ → Said IoWidth
-ioWidthOf code =
-    entry code 0 X4
-    (entry code 1 X8
-    (entry code 2 X16
-    (entry code 3 X32
-    (refused 3 5 code))))
+ioWidthOf code = meant 5 ((0, X4) ∷ (1, X8) ∷ (2, X16) ∷ (3, X32) ∷ []) code
 
 -- field 6, byte 7, bits 7-5: bank groups
 unfoldable pub bankGroupsOf : ℕ → Said BankGroups
-bankGroupsOf code =
-    entry code 0 groups.One
-    (entry code 1 groups.Two
-    (entry code 2 groups.Four
-    (entry code 3 groups.Eight
-    (refused 3 6 code))))
+bankGroupsOf code = meant 6 ((0, groups.One) ∷ (1, groups.Two) ∷ (2, groups.Four) ∷ (3, groups.Eight) ∷ []) code
 
 -- field 7, byte 7, bits 2-0: banks per group
 unfoldable pub banksOf : ℕ → Said BanksPerBankGroup
-banksOf code =
-    entry code 0 banks.One
-    (entry code 1 banks.Two
-    (entry code 2 banks.Four
-    (refused 3 7 code)))
+banksOf code = meant 7 ((0, banks.One) ∷ (1, banks.Two) ∷ (2, banks.Four) ∷ []) code
 
 -- field 8, byte 235, bits 2-0: bus width
 unfoldable pub busWidthOf : ℕ → Said ℕ
-busWidthOf code =
-    entry code 0 8
-    (entry code 1 16
-    (entry code 2 32
-    (entry code 3 64
-    (refused 3 8 code))))
+busWidthOf code = meant 8 ((0, 8) ∷ (1, 16) ∷ (2, 32) ∷ (3, 64) ∷ []) code
 
 -- field 9, byte 235, bits 7-5: channels
 unfoldable pub channelsOf : ℕ → Said ℕ
-channelsOf code =
-    entry code 0 1
-    (entry code 1 2
-    (entry code 2 4
-    (entry code 3 8
-    (refused 3 9 code))))
+channelsOf code = meant 9 ((0, 1) ∷ (1, 2) ∷ (2, 4) ∷ (3, 8) ∷ []) code
 
 -- The numbers that the cases stand for.
 abbrev pub deviceCode : DeviceType → ℕ

@@ -1,4 +1,4 @@
--- What the answers of the tables of single fields say. Only private functions promise them. Assumes nothing.
+-- What the answers of the tables of single fields say. Only private functions promise in these terms. Assumes nothing.
 use Prim.Native.Nat.{ℕ}
 use Rattle.reading.specs.Said.{Said, gives, refuses, told}
 use Rattle.decoders.specs.declared.identity.NumberAnswer.{NumberAnswer}

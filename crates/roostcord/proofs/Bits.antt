@@ -12,7 +12,7 @@ use Rattle.reading.specs.Bytes.{AllBytes}
 use Rattle.reading.specs.View.{View, view}
 use Rattle.reading.specs.declared.Refusal.{Refusal}
 use Rattle.reading.proofs.Picked.{either}
-use Rattle.decoders.specs.Codes.{entry, sizeOf, deviceOf, moduleOf, densityOf, packageOf, ioWidthOf, bankGroupsOf, banksOf, busWidthOf, channelsOf}
+use Rattle.decoders.specs.Codes.{meant, sizeOf, deviceOf, moduleOf, densityOf, packageOf, ioWidthOf, bankGroupsOf, banksOf, busWidthOf, channelsOf}
 use Rattle.decoders.specs.Identity.{identityAt, identityOf}
 use Rattle.decoders.specs.Timing.{timingsAt, timingsOf}
 use Rattle.decoders.specs.Clocks.{clockTableOf}
@@ -33,45 +33,10 @@ abbrev pub Fits : {A : Type 0} → Said A → Type 0
 Fits (gives a) = Unit {0}
 Fits (refuses t) = (t .first < 4096) × (t .second < 1024)
 
-row-fits : {A : Type 0} (code k : ℕ) (x : A) (below : Said A) → Fits below → Fits (entry code k x below)
-row-fits code k x below = either Fits (eqb code k) tt
-
--- the tables: a code that no row has is carried with the field's number
-sizes : (code : ℕ) → code < 1024 → Fits (sizeOf code)
-unfolding sizeOf
-sizes code h = let z : (1 < 4096) × (code < 1024) = (omega arith, h) in search (row-fits, z) depth 14
-
-modules : (code : ℕ) → code < 1024 → Fits (moduleOf code)
-unfolding moduleOf
-modules code h = let z : (2 < 4096) × (code < 1024) = (omega arith, h) in search (row-fits, z) depth 14
-
-densities : (code : ℕ) → code < 1024 → Fits (densityOf code)
-unfolding densityOf
-densities code h = let z : (3 < 4096) × (code < 1024) = (omega arith, h) in search (row-fits, z) depth 14
-
-packages : (code : ℕ) → code < 1024 → Fits (packageOf code)
-unfolding packageOf
-packages code h = let z : (4 < 4096) × (code < 1024) = (omega arith, h) in search (row-fits, z) depth 14
-
-widths : (code : ℕ) → code < 1024 → Fits (ioWidthOf code)
-unfolding ioWidthOf
-widths code h = let z : (5 < 4096) × (code < 1024) = (omega arith, h) in search (row-fits, z) depth 14
-
-groups : (code : ℕ) → code < 1024 → Fits (bankGroupsOf code)
-unfolding bankGroupsOf
-groups code h = let z : (6 < 4096) × (code < 1024) = (omega arith, h) in search (row-fits, z) depth 14
-
-banks : (code : ℕ) → code < 1024 → Fits (banksOf code)
-unfolding banksOf
-banks code h = let z : (7 < 4096) × (code < 1024) = (omega arith, h) in search (row-fits, z) depth 14
-
-buses : (code : ℕ) → code < 1024 → Fits (busWidthOf code)
-unfolding busWidthOf
-buses code h = let z : (8 < 4096) × (code < 1024) = (omega arith, h) in search (row-fits, z) depth 14
-
-channels : (code : ℕ) → code < 1024 → Fits (channelsOf code)
-unfolding channelsOf
-channels code h = let z : (9 < 4096) × (code < 1024) = (omega arith, h) in search (row-fits, z) depth 14
+-- a field's table: a code that it does not have is carried with the field's number
+table-fits : {A : Type 0} (field : ℕ) (rows : List (ℕ × A)) (code : ℕ) → field < 4096 → code < 1024 → Fits (meant field rows code)
+table-fits field [] code h k = (h, k)
+table-fits field ((n, x) ∷ rows) code h k = either Fits (eqb code n) tt (table-fits field rows code h k)
 
 devices : (byte2 : ℕ) → byte2 < 256 → Fits (deviceOf byte2)
 unfolding deviceOf
@@ -87,18 +52,19 @@ plain : (0 < 4096) × (0 < 1024)
 plain = (omega arith, omega arith)
 
 identity-fits : (v : View) → v .byte 2 < 256 → Fits (identityAt v)
+unfolding sizeOf moduleOf densityOf packageOf ioWidthOf bankGroupsOf banksOf busWidthOf channelsOf
 identity-fits v h =
     either Fits (v .below 236) plain
-    (on-fits (sizeOf (v .byte 0 / 16 % 8)) _ (sizes (v .byte 0 / 16 % 8) (omega arith)) (λ size.
+    (on-fits (sizeOf (v .byte 0 / 16 % 8)) _ (table-fits 1 _ (v .byte 0 / 16 % 8) (omega arith) (omega arith)) (λ size.
     on-fits (deviceOf (v .byte 2)) _ (devices (v .byte 2) h) (λ device.
-    on-fits (moduleOf (v .byte 3 % 16)) _ (modules (v .byte 3 % 16) (omega arith)) (λ m.
-    on-fits (densityOf (v .byte 4 % 32)) _ (densities (v .byte 4 % 32) (omega arith)) (λ density.
-    on-fits (packageOf (v .byte 4 / 32 % 8)) _ (packages (v .byte 4 / 32 % 8) (omega arith)) (λ p.
-    on-fits (ioWidthOf (v .byte 6 / 32 % 8)) _ (widths (v .byte 6 / 32 % 8) (omega arith)) (λ width.
-    on-fits (bankGroupsOf (v .byte 7 / 32 % 8)) _ (groups (v .byte 7 / 32 % 8) (omega arith)) (λ g.
-    on-fits (banksOf (v .byte 7 % 8)) _ (banks (v .byte 7 % 8) (omega arith)) (λ b.
-    on-fits (busWidthOf (v .byte 235 % 8)) _ (buses (v .byte 235 % 8) (omega arith)) (λ bus.
-    on-fits (channelsOf (v .byte 235 / 32 % 8)) _ (channels (v .byte 235 / 32 % 8) (omega arith)) (λ c. tt)))))))))))
+    on-fits (moduleOf (v .byte 3 % 16)) _ (table-fits 2 _ (v .byte 3 % 16) (omega arith) (omega arith)) (λ m.
+    on-fits (densityOf (v .byte 4 % 32)) _ (table-fits 3 _ (v .byte 4 % 32) (omega arith) (omega arith)) (λ density.
+    on-fits (packageOf (v .byte 4 / 32 % 8)) _ (table-fits 4 _ (v .byte 4 / 32 % 8) (omega arith) (omega arith)) (λ p.
+    on-fits (ioWidthOf (v .byte 6 / 32 % 8)) _ (table-fits 5 _ (v .byte 6 / 32 % 8) (omega arith) (omega arith)) (λ width.
+    on-fits (bankGroupsOf (v .byte 7 / 32 % 8)) _ (table-fits 6 _ (v .byte 7 / 32 % 8) (omega arith) (omega arith)) (λ g.
+    on-fits (banksOf (v .byte 7 % 8)) _ (table-fits 7 _ (v .byte 7 % 8) (omega arith) (omega arith)) (λ b.
+    on-fits (busWidthOf (v .byte 235 % 8)) _ (table-fits 8 _ (v .byte 235 % 8) (omega arith) (omega arith)) (λ bus.
+    on-fits (channelsOf (v .byte 235 / 32 % 8)) _ (table-fits 9 _ (v .byte 235 / 32 % 8) (omega arith) (omega arith)) (λ c. tt)))))))))))
 
 timings-fits : (v : View) → Fits (timingsAt v)
 timings-fits v = either Fits (v .below 94) plain tt

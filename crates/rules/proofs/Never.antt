@@ -2,7 +2,7 @@
 -- at most fifteen speak. A rated profile has five rules. Assumes nothing.
 use Prim.Native.Nat.{ℕ, _+_, _/_, _%_, _≤_}
 use mathlib.Core.Path.{_≡_, refl, subst}
-use mathlib.Core.List.{List, _∷_, _++_}
+use mathlib.Core.List.{List, [], _∷_, _++_}
 use native.Mathlib.Omega.{arith}
 use lib.Dec.{eqb}
 use lib.ListN.{length, take, drop, length-append}
@@ -13,7 +13,7 @@ use Rattle.findings.specs.declared.Found.{Found}
 use Rattle.findings.specs.declared.Found.the-variants.{Nothing}
 use Rattle.findings.specs.Hold.{cat}
 use Rattle.findings.proofs.Laws.{length-cat, cat-append}
-use Rattle.decoders.specs.Codes.{entry, sizeOf, deviceOf, moduleOf, densityOf, packageOf, ioWidthOf, bankGroupsOf, banksOf, busWidthOf, channelsOf}
+use Rattle.decoders.specs.Codes.{meant, sizeOf, deviceOf, moduleOf, densityOf, packageOf, ioWidthOf, bankGroupsOf, banksOf, busWidthOf, channelsOf}
 use Rattle.decoders.specs.Identity.{identityAt}
 use Rattle.decoders.specs.declared.identity.IdentityAndBase.{IdentityAndBase}
 use Rattle.decoders.specs.declared.identity.PackageType.{PackageType}
@@ -37,27 +37,22 @@ through P (refuses t) go h = tt
 abbrev Coherent : PackageType → ℕ → Type 0
 Coherent kind dies = coherence kind dies ≡ Nothing
 
--- one row of a table, and the rows below it
-row-of : {A : Type 0} (P : A → Type 0) (code k : ℕ) (x : A) (below : Said A) → P x → OfGiven below P → OfGiven (entry code k x below) P
-row-of P code k x below = either (λ s. OfGiven s P) (eqb code k)
+-- what holds of all that a table's codes stand for, holds of what it gives
+abbrev AllOf : {A : Type 0} → (A → Type 0) → List (ℕ × A) → Type 0
+AllOf P [] = Unit {0}
+AllOf P ((k, x) ∷ rows) = P x × AllOf P rows
+
+table-of : {A : Type 0} (P : A → Type 0) (field : ℕ) (rows : List (ℕ × A)) (code : ℕ) → AllOf P rows → OfGiven (meant field rows code) P
+table-of P field [] code h = tt
+table-of P field ((k, x) ∷ rows) code h = either (λ s. OfGiven s P) (eqb code k) (h .0) (table-of P field rows code (h .1))
 
 packages : (code : ℕ) → OfGiven (packageOf code) (λ p. Coherent (p .«package_type») (p .«die_count»))
 unfolding packageOf
-packages code =
-    row-of _ code 0 _ _ refl
-    (row-of _ code 1 _ _ refl
-    (row-of _ code 2 _ _ refl
-    (row-of _ code 3 _ _ refl
-    (row-of _ code 4 _ _ refl
-    (row-of _ code 5 _ _ refl tt)))))
+packages code = table-of _ 4 _ code (refl, refl, refl, refl, refl, refl, tt)
 
 buses : (code : ℕ) → OfGiven (busWidthOf code) (λ bits. bits ≤ 64)
 unfolding busWidthOf
-buses code =
-    row-of _ code 0 _ _ (omega arith)
-    (row-of _ code 1 _ _ (omega arith)
-    (row-of _ code 2 _ _ (omega arith)
-    (row-of _ code 3 _ _ (omega arith) tt)))
+buses code = table-of _ 8 _ code (omega arith, omega arith, omega arith, omega arith, tt)
 
 -- what the tables let into a record
 pub record Decoded (d : IdentityAndBase) : Type 0 where
