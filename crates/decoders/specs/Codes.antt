@@ -28,8 +28,11 @@ meant field [] code = refused 3 field code
 meant field ((k, x) ∷ rows) code = pick (eqb code k) (gives x) (meant field rows code)
 
 -- field 1, byte 0, bits 6-4: SPD bytes
+abbrev pub sizeTable : List (ℕ × ℕ)
+sizeTable = (1, 256) ∷ (2, 512) ∷ (3, 1024) ∷ (4, 2048) ∷ []
+
 unfoldable pub sizeOf : ℕ → Said ℕ
-sizeOf code = meant 1 ((1, 256) ∷ (2, 512) ∷ (3, 1024) ∷ (4, 2048) ∷ []) code
+sizeOf code = meant 1 sizeTable code
 
 -- byte 1: major in the high four bits
 abbrev pub revisionOf : ℕ → SpdRevision
@@ -40,46 +43,67 @@ unfoldable pub deviceOf : ℕ → Said DeviceType
 deviceOf byte2 = pick (eqb byte2 0x12) (gives Ddr5) (refused 2 byte2 0)
 
 -- field 2, byte 3, bits 3-0: module type
-unfoldable pub moduleOf : ℕ → Said ModuleType
-moduleOf code =
-    meant 2 (
+abbrev pub moduleTable : List (ℕ × ModuleType)
+moduleTable =
     (1, Rdimm) ∷ (2, Udimm) ∷ (3, Sodimm) ∷ (4, Lrdimm) ∷ (5, Cudimm) ∷ (6, Csoudimm) ∷ (7, Mrdimm) ∷ (8, Camm2)
-    ∷ (10, Ddimm) ∷ (11, SolderDown) ∷ []) code
+    ∷ (10, Ddimm) ∷ (11, SolderDown) ∷ []
+
+unfoldable pub moduleOf : ℕ → Said ModuleType
+moduleOf code = meant 2 moduleTable code
 
 -- field 3, byte 4, bits 4-0: gigabits per die
+abbrev pub densityTable : List (ℕ × DensityPerDie)
+densityTable = (1, Gb4) ∷ (2, Gb8) ∷ (3, Gb12) ∷ (4, Gb16) ∷ (5, Gb24) ∷ (6, Gb32) ∷ (7, Gb48) ∷ (8, Gb64) ∷ []
+
 unfoldable pub densityOf : ℕ → Said DensityPerDie
-densityOf code =
-    meant 3 ((1, Gb4) ∷ (2, Gb8) ∷ (3, Gb12) ∷ (4, Gb16) ∷ (5, Gb24) ∷ (6, Gb32) ∷ (7, Gb48) ∷ (8, Gb64) ∷ []) code
+densityOf code = meant 3 densityTable code
 
 -- field 4, byte 4, bits 7-5: package and dies
 abbrev pub packed : PackageType → (dies : ℕ) → Package
 packed p dies = record { «package_type» = p; «die_count» = dies }
 
-unfoldable pub packageOf : ℕ → Said Package
-packageOf code =
-    meant 4 (
+abbrev pub packageTable : List (ℕ × Package)
+packageTable =
     (0, packed Monolithic 1) ∷ (1, packed DualDie 2)
-    ∷ (2, packed ThreeDs 2) ∷ (3, packed ThreeDs 4) ∷ (4, packed ThreeDs 8) ∷ (5, packed ThreeDs 16) ∷ []) code
+    ∷ (2, packed ThreeDs 2) ∷ (3, packed ThreeDs 4) ∷ (4, packed ThreeDs 8) ∷ (5, packed ThreeDs 16) ∷ []
+
+unfoldable pub packageOf : ℕ → Said Package
+packageOf code = meant 4 packageTable code
 
 -- field 5, byte 6, bits 7-5: I/O width
+abbrev pub ioWidthTable : List (ℕ × IoWidth)
+ioWidthTable = (0, X4) ∷ (1, X8) ∷ (2, X16) ∷ (3, X32) ∷ []
+
 unfoldable pub ioWidthOf : ℕ → Said IoWidth
-ioWidthOf code = meant 5 ((0, X4) ∷ (1, X8) ∷ (2, X16) ∷ (3, X32) ∷ []) code
+ioWidthOf code = meant 5 ioWidthTable code
 
 -- field 6, byte 7, bits 7-5: bank groups
+abbrev pub bankGroupTable : List (ℕ × BankGroups)
+bankGroupTable = (0, groups.One) ∷ (1, groups.Two) ∷ (2, groups.Four) ∷ (3, groups.Eight) ∷ []
+
 unfoldable pub bankGroupsOf : ℕ → Said BankGroups
-bankGroupsOf code = meant 6 ((0, groups.One) ∷ (1, groups.Two) ∷ (2, groups.Four) ∷ (3, groups.Eight) ∷ []) code
+bankGroupsOf code = meant 6 bankGroupTable code
 
 -- field 7, byte 7, bits 2-0: banks per group
+abbrev pub banksTable : List (ℕ × BanksPerBankGroup)
+banksTable = (0, banks.One) ∷ (1, banks.Two) ∷ (2, banks.Four) ∷ []
+
 unfoldable pub banksOf : ℕ → Said BanksPerBankGroup
-banksOf code = meant 7 ((0, banks.One) ∷ (1, banks.Two) ∷ (2, banks.Four) ∷ []) code
+banksOf code = meant 7 banksTable code
 
 -- field 8, byte 235, bits 2-0: bus width
+abbrev pub busWidthTable : List (ℕ × ℕ)
+busWidthTable = (0, 8) ∷ (1, 16) ∷ (2, 32) ∷ (3, 64) ∷ []
+
 unfoldable pub busWidthOf : ℕ → Said ℕ
-busWidthOf code = meant 8 ((0, 8) ∷ (1, 16) ∷ (2, 32) ∷ (3, 64) ∷ []) code
+busWidthOf code = meant 8 busWidthTable code
 
 -- field 9, byte 235, bits 7-5: channels
+abbrev pub channelTable : List (ℕ × ℕ)
+channelTable = (0, 1) ∷ (1, 2) ∷ (2, 4) ∷ (3, 8) ∷ []
+
 unfoldable pub channelsOf : ℕ → Said ℕ
-channelsOf code = meant 9 ((0, 1) ∷ (1, 2) ∷ (2, 4) ∷ (3, 8) ∷ []) code
+channelsOf code = meant 9 channelTable code
 
 -- The numbers that the cases stand for.
 abbrev pub deviceCode : DeviceType → ℕ

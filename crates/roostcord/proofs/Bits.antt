@@ -12,7 +12,8 @@ use Rattle.reading.specs.Bytes.{AllBytes}
 use Rattle.reading.specs.View.{View, view}
 use Rattle.reading.specs.declared.Refusal.{Refusal}
 use Rattle.reading.proofs.Picked.{either}
-use Rattle.decoders.specs.Codes.{meant, sizeOf, deviceOf, moduleOf, densityOf, packageOf, ioWidthOf, bankGroupsOf, banksOf, busWidthOf, channelsOf}
+use Rattle.decoders.specs.Codes.{meant, sizeTable, moduleTable, densityTable, packageTable, ioWidthTable, bankGroupTable, banksTable, busWidthTable, channelTable}
+use Rattle.decoders.specs.Codes.{sizeOf, deviceOf, moduleOf, densityOf, packageOf, ioWidthOf, bankGroupsOf, banksOf, busWidthOf, channelsOf}
 use Rattle.decoders.specs.Identity.{identityAt, identityOf}
 use Rattle.decoders.specs.Timing.{timingsAt, timingsOf}
 use Rattle.decoders.specs.Clocks.{clockTableOf}
@@ -55,16 +56,16 @@ identity-fits : (v : View) → v .byte 2 < 256 → Fits (identityAt v)
 unfolding sizeOf moduleOf densityOf packageOf ioWidthOf bankGroupsOf banksOf busWidthOf channelsOf
 identity-fits v h =
     either Fits (v .below 236) plain
-    (on-fits (sizeOf (v .byte 0 / 16 % 8)) _ (table-fits 1 _ (v .byte 0 / 16 % 8) (omega arith) (omega arith)) (λ size.
+    (on-fits (sizeOf (v .byte 0 / 16 % 8)) _ (table-fits 1 sizeTable (v .byte 0 / 16 % 8) (omega arith) (omega arith)) (λ size.
     on-fits (deviceOf (v .byte 2)) _ (devices (v .byte 2) h) (λ device.
-    on-fits (moduleOf (v .byte 3 % 16)) _ (table-fits 2 _ (v .byte 3 % 16) (omega arith) (omega arith)) (λ m.
-    on-fits (densityOf (v .byte 4 % 32)) _ (table-fits 3 _ (v .byte 4 % 32) (omega arith) (omega arith)) (λ density.
-    on-fits (packageOf (v .byte 4 / 32 % 8)) _ (table-fits 4 _ (v .byte 4 / 32 % 8) (omega arith) (omega arith)) (λ p.
-    on-fits (ioWidthOf (v .byte 6 / 32 % 8)) _ (table-fits 5 _ (v .byte 6 / 32 % 8) (omega arith) (omega arith)) (λ width.
-    on-fits (bankGroupsOf (v .byte 7 / 32 % 8)) _ (table-fits 6 _ (v .byte 7 / 32 % 8) (omega arith) (omega arith)) (λ g.
-    on-fits (banksOf (v .byte 7 % 8)) _ (table-fits 7 _ (v .byte 7 % 8) (omega arith) (omega arith)) (λ b.
-    on-fits (busWidthOf (v .byte 235 % 8)) _ (table-fits 8 _ (v .byte 235 % 8) (omega arith) (omega arith)) (λ bus.
-    on-fits (channelsOf (v .byte 235 / 32 % 8)) _ (table-fits 9 _ (v .byte 235 / 32 % 8) (omega arith) (omega arith)) (λ c. tt)))))))))))
+    on-fits (moduleOf (v .byte 3 % 16)) _ (table-fits 2 moduleTable (v .byte 3 % 16) (omega arith) (omega arith)) (λ m.
+    on-fits (densityOf (v .byte 4 % 32)) _ (table-fits 3 densityTable (v .byte 4 % 32) (omega arith) (omega arith)) (λ density.
+    on-fits (packageOf (v .byte 4 / 32 % 8)) _ (table-fits 4 packageTable (v .byte 4 / 32 % 8) (omega arith) (omega arith)) (λ p.
+    on-fits (ioWidthOf (v .byte 6 / 32 % 8)) _ (table-fits 5 ioWidthTable (v .byte 6 / 32 % 8) (omega arith) (omega arith)) (λ width.
+    on-fits (bankGroupsOf (v .byte 7 / 32 % 8)) _ (table-fits 6 bankGroupTable (v .byte 7 / 32 % 8) (omega arith) (omega arith)) (λ g.
+    on-fits (banksOf (v .byte 7 % 8)) _ (table-fits 7 banksTable (v .byte 7 % 8) (omega arith) (omega arith)) (λ b.
+    on-fits (busWidthOf (v .byte 235 % 8)) _ (table-fits 8 busWidthTable (v .byte 235 % 8) (omega arith) (omega arith)) (λ bus.
+    on-fits (channelsOf (v .byte 235 / 32 % 8)) _ (table-fits 9 channelTable (v .byte 235 / 32 % 8) (omega arith) (omega arith)) (λ c. tt)))))))))))
 
 timings-fits : (v : View) → Fits (timingsAt v)
 timings-fits v = either Fits (v .below 94) plain tt

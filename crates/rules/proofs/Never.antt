@@ -13,7 +13,7 @@ use Rattle.findings.specs.declared.Found.{Found}
 use Rattle.findings.specs.declared.Found.the-variants.{Nothing}
 use Rattle.findings.specs.Hold.{cat}
 use Rattle.findings.proofs.Laws.{length-cat, cat-append}
-use Rattle.decoders.specs.Codes.{meant, sizeOf, deviceOf, moduleOf, densityOf, packageOf, ioWidthOf, bankGroupsOf, banksOf, busWidthOf, channelsOf}
+use Rattle.decoders.specs.Codes.{meant, packageTable, busWidthTable, sizeOf, deviceOf, moduleOf, densityOf, packageOf, ioWidthOf, bankGroupsOf, banksOf, busWidthOf, channelsOf}
 use Rattle.decoders.specs.Identity.{identityAt}
 use Rattle.decoders.specs.declared.identity.IdentityAndBase.{IdentityAndBase}
 use Rattle.decoders.specs.declared.identity.PackageType.{PackageType}
@@ -48,11 +48,11 @@ table-of P field ((k, x) ∷ rows) code h = either (λ s. OfGiven s P) (eqb code
 
 packages : (code : ℕ) → OfGiven (packageOf code) (λ p. Coherent (p .«package_type») (p .«die_count»))
 unfolding packageOf
-packages code = table-of _ 4 _ code (refl, refl, refl, refl, refl, refl, tt)
+packages code = table-of (λ p. Coherent (p .«package_type») (p .«die_count»)) 4 packageTable code (refl, refl, refl, refl, refl, refl, tt)
 
 buses : (code : ℕ) → OfGiven (busWidthOf code) (λ bits. bits ≤ 64)
 unfolding busWidthOf
-buses code = table-of _ 8 _ code (omega arith, omega arith, omega arith, omega arith, tt)
+buses code = table-of (λ bits. bits ≤ 64) 8 busWidthTable code (omega arith, omega arith, omega arith, omega arith, tt)
 
 -- what the tables let into a record
 pub record Decoded (d : IdentityAndBase) : Type 0 where
