@@ -364,6 +364,7 @@ fn put_identity(base: Base, sdram: Sdram, organization: Organization, out: &mut 
     put(&numbers, out);
 }
 
+// The numbers of a timing record, and of a clock table, likewise.
 fn put_timings(t: Timings, out: &mut [u32])
     requires { ⌜ 30 ≤ length (now out) ⌝ }
     ensures { λ _. ⌜ now (out .exit) ≡ laid (timingNumbers t) (now (out .entry)) ⌝ }
