@@ -10,3 +10,7 @@ refusalWord t = t .number + 256 * (t .first % 4096) + 1048576 * (t .second % 102
 abbrev pub wordOf : Said ℕ → ℤ
 wordOf (gives n) = pos n
 wordOf (refuses t) = negℤ (pos (refusalWord t))
+
+-- the version of the library, major * 65536 + minor * 256 + patch, as station/roostcord.h has it: 1.0.0
+abbrev pub libraryVersion : ℕ
+libraryVersion = 0x010000

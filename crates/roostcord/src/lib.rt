@@ -10,7 +10,7 @@ ghost use Rattle.reading.specs.Lent.{laid};
 ghost use Rattle.decoders.specs.Identity.{wholeOf};
 ghost use Rattle.rules.specs.Lanes.{severityNumber};
 ghost use Rattle.report.specs.Write.{lintReportOf, lintReportAfter};
-ghost use Rattle.roostcord.specs.Word.{refusalWord, wordOf};
+ghost use Rattle.roostcord.specs.Word.{refusalWord, wordOf, libraryVersion};
 ghost use Rattle.roostcord.specs.Numbers.{identityNumbers, timingNumbers, clockNumbers, reportNumbers, identityList, timingsList, casNumbers, clocksList, reportList, listedIn, listAfter};
 ghost use Rattle.roostcord.specs.State.{stateSize, countIn, arrivedIn, asked, short, freshIn, freshAfter, feedIn, feedAfter, takenIn};
 use decoders::clocks::ClockTable;
@@ -35,6 +35,14 @@ use report::WriteAnswer;
 
 // A state in lent bytes: the count taken in two bytes, then the bytes that are kept.
 const STATE_SIZE: usize = 2 + KEPT;
+
+// The version of the library: major * 65536 + minor * 256 + patch.
+#[no_mangle]
+pub extern "C" fn roostcord_version() -> u32
+    ensures { λ r. ⌜ r ≡ libraryVersion ⌝ }
+{
+    0x010000
+}
 
 // Lints an image and writes its report: how many bytes.
 #[no_mangle]
