@@ -14,7 +14,8 @@ def crc16(data):
     return crc
 
 
-def sound():
+def module(row_times):
+    """A 4800 MT/s UDIMM with tAA, tRCD, tRP, tRAS and tRC as told, in picoseconds."""
     image = bytearray(512)
 
     def number(offset, value):
@@ -26,8 +27,9 @@ def sound():
     number(22, 1010)  # tCKmax
     mask = sum(1 << (cl - 20) // 2 for cl in (22, 28, 30, 32, 36, 40, 42))
     image[24:29] = mask.to_bytes(5, "little")
-    for offset, time in ((30, 16640), (32, 16640), (34, 16640), (36, 32000), (38, 48640), (40, 30000)):
-        number(offset, time)  # tAA tRCD tRP tRAS tRC tWR
+    for k, time in enumerate(row_times):  # tAA tRCD tRP tRAS tRC
+        number(30 + 2 * k, time)
+    number(40, 30000)  # tWR
     for offset, time in ((42, 295), (44, 160), (46, 130)):
         number(offset, time)  # tRFC1 tRFC2 tRFCsb, in nanoseconds
     pairs = ((5000, 8), (5000, 8), (20000, 32), (10000, 16), (13333, 32), (10000, 16), (2500, 4), (7500, 12))
@@ -45,9 +47,10 @@ def xxd(offset, data):
     return f"{offset:08x}: {groups:39}  {text}\n"
 
 
-image = sound()
+image = module((16640, 16640, 16640, 32000, 48640))
 arrived = [(offset, image[offset : offset + 16]) for offset in range(0, 512, 16)]
 arrived.insert(2, arrived[1])  # the burst of bytes 16 to 31 comes twice
 (HERE / "ddr5-4800.bin").write_bytes(image)
+(HERE / "ddr5-4800b.bin").write_bytes(module((16000, 16000, 16000, 32000, 48000)))
 (HERE / "ddr5-4800-burst-twice.xxd").write_text("".join(xxd(offset, data) for offset, data in arrived))
 (HERE / "ddr5-4800-burst-twice.bin").write_bytes(b"".join(data for _, data in arrived)[:512])
