@@ -48,11 +48,11 @@ table-of P field ((k, x) ∷ rows) code h = either (λ s. OfGiven s P) (eqb code
 
 packages : (code : ℕ) → OfGiven (packageOf code) (λ p. Coherent (p .«package_type») (p .«die_count»))
 unfolding packageOf
-packages code = table-of (λ p. Coherent (p .«package_type») (p .«die_count»)) 4 packageTable code (refl, refl, refl, refl, refl, refl, tt)
+packages code = table-of (λ p. Coherent (p .«package_type») (p .«die_count»)) 4 packageTable code (refl, (refl, (refl, (refl, (refl, (refl, tt))))))
 
 buses : (code : ℕ) → OfGiven (busWidthOf code) (λ bits. bits ≤ 64)
 unfolding busWidthOf
-buses code = table-of (λ bits. bits ≤ 64) 8 busWidthTable code (omega arith, omega arith, omega arith, omega arith, tt)
+buses code = table-of (λ bits. bits ≤ 64) 8 busWidthTable code (omega arith, (omega arith, (omega arith, (omega arith, tt))))
 
 -- what the tables let into a record
 pub record Decoded (d : IdentityAndBase) : Type 0 where
