@@ -1,11 +1,11 @@
-"""What the prover's refusal of a changed crate is worth, and the book of verdicts, docs/strength.txt.
+"""What the prover's refusal of a changed crate is worth, and the book of verdicts, tools/strength.txt.
 
 tools/strength and tools/edits tell a refusal by a fact from one by shape here, and tools/strength and tools/surface read the book here.
 """
 import pathlib
 import re
 
-BOOK = pathlib.Path(__file__).resolve().parent.parent / "docs" / "strength.txt"
+BOOK = pathlib.Path(__file__).resolve().parent / "strength.txt"
 FACT, SHAPE, OPEN, LEFT, NOT = "refused by a fact", "refused by shape", "no verdict", "survived", "not Rattle"
 VERDICTS = [FACT, SHAPE, OPEN, LEFT, NOT]
 
