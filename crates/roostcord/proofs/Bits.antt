@@ -35,9 +35,9 @@ Fits (gives a) = Unit {0}
 Fits (refuses t) = (t .first < 4096) × (t .second < 1024)
 
 -- a field's table: a code that it does not have is carried with the field's number
-table-fits : {A : Type 0} (field : ℕ) (rows : List (ℕ × A)) (code : ℕ) → field < 4096 → code < 1024 → Fits (meant field rows code)
-table-fits field [] code h k = (h, k)
-table-fits field ((n, x) ∷ rows) code h k = either Fits (eqb code n) tt (table-fits field rows code h k)
+codes-fit : {A : Type 0} (field : ℕ) (rows : List (ℕ × A)) (code : ℕ) → field < 4096 → code < 1024 → Fits (meant field rows code)
+codes-fit field [] code h k = (h, k)
+codes-fit field ((n, x) ∷ rows) code h k = either Fits (eqb code n) tt (codes-fit field rows code h k)
 
 devices : (byte2 : ℕ) → byte2 < 256 → Fits (deviceOf byte2)
 unfolding deviceOf
@@ -56,16 +56,16 @@ identity-fits : (v : View) → v .byte 2 < 256 → Fits (identityAt v)
 unfolding sizeOf moduleOf densityOf packageOf ioWidthOf bankGroupsOf banksOf busWidthOf channelsOf
 identity-fits v h =
     either Fits (v .below 236) plain
-    (on-fits (sizeOf (v .byte 0 / 16 % 8)) _ (table-fits 1 sizeTable (v .byte 0 / 16 % 8) (omega arith) (omega arith)) (λ size.
+    (on-fits (sizeOf (v .byte 0 / 16 % 8)) _ (codes-fit 1 sizeTable (v .byte 0 / 16 % 8) (omega arith) (omega arith)) (λ size.
     on-fits (deviceOf (v .byte 2)) _ (devices (v .byte 2) h) (λ device.
-    on-fits (moduleOf (v .byte 3 % 16)) _ (table-fits 2 moduleTable (v .byte 3 % 16) (omega arith) (omega arith)) (λ m.
-    on-fits (densityOf (v .byte 4 % 32)) _ (table-fits 3 densityTable (v .byte 4 % 32) (omega arith) (omega arith)) (λ density.
-    on-fits (packageOf (v .byte 4 / 32 % 8)) _ (table-fits 4 packageTable (v .byte 4 / 32 % 8) (omega arith) (omega arith)) (λ p.
-    on-fits (ioWidthOf (v .byte 6 / 32 % 8)) _ (table-fits 5 ioWidthTable (v .byte 6 / 32 % 8) (omega arith) (omega arith)) (λ width.
-    on-fits (bankGroupsOf (v .byte 7 / 32 % 8)) _ (table-fits 6 bankGroupTable (v .byte 7 / 32 % 8) (omega arith) (omega arith)) (λ g.
-    on-fits (banksOf (v .byte 7 % 8)) _ (table-fits 7 banksTable (v .byte 7 % 8) (omega arith) (omega arith)) (λ b.
-    on-fits (busWidthOf (v .byte 235 % 8)) _ (table-fits 8 busWidthTable (v .byte 235 % 8) (omega arith) (omega arith)) (λ bus.
-    on-fits (channelsOf (v .byte 235 / 32 % 8)) _ (table-fits 9 channelTable (v .byte 235 / 32 % 8) (omega arith) (omega arith)) (λ c. tt)))))))))))
+    on-fits (moduleOf (v .byte 3 % 16)) _ (codes-fit 2 moduleTable (v .byte 3 % 16) (omega arith) (omega arith)) (λ m.
+    on-fits (densityOf (v .byte 4 % 32)) _ (codes-fit 3 densityTable (v .byte 4 % 32) (omega arith) (omega arith)) (λ density.
+    on-fits (packageOf (v .byte 4 / 32 % 8)) _ (codes-fit 4 packageTable (v .byte 4 / 32 % 8) (omega arith) (omega arith)) (λ p.
+    on-fits (ioWidthOf (v .byte 6 / 32 % 8)) _ (codes-fit 5 ioWidthTable (v .byte 6 / 32 % 8) (omega arith) (omega arith)) (λ width.
+    on-fits (bankGroupsOf (v .byte 7 / 32 % 8)) _ (codes-fit 6 bankGroupTable (v .byte 7 / 32 % 8) (omega arith) (omega arith)) (λ g.
+    on-fits (banksOf (v .byte 7 % 8)) _ (codes-fit 7 banksTable (v .byte 7 % 8) (omega arith) (omega arith)) (λ b.
+    on-fits (busWidthOf (v .byte 235 % 8)) _ (codes-fit 8 busWidthTable (v .byte 235 % 8) (omega arith) (omega arith)) (λ bus.
+    on-fits (channelsOf (v .byte 235 / 32 % 8)) _ (codes-fit 9 channelTable (v .byte 235 / 32 % 8) (omega arith) (omega arith)) (λ c. tt)))))))))))
 
 timings-fits : (v : View) → Fits (timingsAt v)
 timings-fits v = either Fits (v .below 94) plain tt
