@@ -5,7 +5,7 @@ use Prim.Native.Nat.{ℕ}
 use mir.Syntax.{Name}
 use denote.Struct.Laws as LL
 use Rattle.reading.specs.Said.{Said}
-use Rattle.findings.specs.Lent.{listed}
+use Rattle.reading.specs.Lent.{listed}
 use Rattle.findings.proofs.Walked.{to-field}
 use Rattle.rules.specs.Lint.{Listing, lintAnswerSaid, lintAnswerOf, findingsOf}
 use Rattle.rules.proofs.LintAnswer as LA

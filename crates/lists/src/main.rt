@@ -7,7 +7,7 @@ ghost use mathlib.Core.Path.{_≡_};
 ghost use Prim.Native.Nat.{_≤_};
 ghost use mathlib.Core.List.{_++_};
 ghost use lib.ListN.{length, take, drop};
-ghost use Rattle.findings.specs.Lent.{listed};
+ghost use Rattle.reading.specs.Lent.{listed};
 ghost use Rattle.rules.specs.Lint.{lintAnswerSaid, lintAnswerOf, findingsOf, ratedSaid, ratedOf, ratedFindings};
 ghost use Rattle.report.specs.Read.{readSaid, readOf, readAfter};
 ghost use Rattle.report.specs.Write.{writeSaid, writeOf, writtenOver};

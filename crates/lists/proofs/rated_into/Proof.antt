@@ -3,7 +3,7 @@ use mathlib.Core.Path.{refl}
 use Prim.Native.Nat.{ℕ}
 use denote.Struct.Laws as LL
 use Rattle.reading.specs.Said.{Said}
-use Rattle.findings.specs.Lent.{listed}
+use Rattle.reading.specs.Lent.{listed}
 use Rattle.findings.proofs.Walked.{to-field}
 use Rattle.rules.specs.Lint.{ratedSaid, ratedOf, ratedFindings}
 use Rattle.rules.specs.declared.RatedTimings.{RatedTimings}
