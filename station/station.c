@@ -191,7 +191,7 @@ static struct feed_result feed_log(const char *path, const char *shown, uint8_t 
 static int lint_named(const char *name, const struct options *options, bool name_it) {
   const char *path = strcmp(name, "-") == 0 ? NULL : name, *shown = path ? path : "standard input";
   uint8_t state[ROOSTCORD_STATE_SIZE];
-  roostcord_pieces_fresh(state, sizeof state);
+  if (ROOSTCORD_REFUSED(roostcord_pieces_fresh(state, sizeof state))) return UNREADABLE; /* it is long enough */
   struct feed_result fed = options->bursts ? feed_log(path, shown, state) : feed_file(path, shown, options, state);
   if (fed.end != FEED_WHOLE && fed.end != FEED_REFUSED) return UNREADABLE;
   if (name_it) printf("%s:\n", shown);
