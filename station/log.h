@@ -40,12 +40,14 @@ struct log {
   size_t offset;       /* its offset */
   size_t end;          /* where the furthest line ends */
   bool over;           /* the end was told */
+  unsigned long refused; /* how many lines the library refused 5 */
   size_t len;          /* of the text */
   char text[LOG_LINE_MAX + 1];
   uint8_t bytes[LOG_LINE_MAX / 2];
 };
 
-/* A line that the library refuses 5 is told on standard error, with its number. */
+/* A line that the library refuses 5 is told on standard error, with its number, by log_tell_refused. */
 struct reader log_reader(struct log *log, FILE *file, const char *name);
+void log_tell_refused(void *context, const struct burst *burst, int32_t answer);
 
 #endif
