@@ -1,18 +1,21 @@
 /* Reports as files; archive.h says how. */
-#define _POSIX_C_SOURCE 200809L
+#define _XOPEN_SOURCE 700 /* realpath */
 #include "archive.h"
 
 #include <errno.h>
 #include <fcntl.h>
-#include <sys/stat.h>
+#include <stdlib.h>
+#include <string.h>
 #include <unistd.h>
 
 enum { MODE = 0666 }; /* of a new file, less what umask takes away */
 
 bool same_file(const char *report, const char *path) {
-  struct stat one, other;
-  if (stat(report, &one) != 0 || (path ? stat(path, &other) : fstat(STDIN_FILENO, &other)) != 0) return false;
-  return one.st_dev == other.st_dev && one.st_ino == other.st_ino;
+  char *one = realpath(report, NULL), *other = realpath(path ? path : "/dev/stdin", NULL);
+  bool same = one && other && strcmp(one, other) == 0; /* a file that is not there yet is none of the others */
+  free(one);
+  free(other);
+  return same;
 }
 
 static int write_all(int fd, const uint8_t *bytes, size_t len) {

@@ -8,7 +8,7 @@
 
 enum { STORED_MAX = 2 + 65535 }; /* the most that the two bytes in front of a report can count, and themselves */
 
-/* Whether two names lead to one file; a path of NULL is standard input. */
+/* Whether two names lead to one file, links by name followed; a path of NULL is standard input. */
 bool same_file(const char *report, const char *path);
 
 /* Writes a report to a file, over what was there. Answers 0, or an errno; what is then left of it is refused when it is read. */
