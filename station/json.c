@@ -107,7 +107,8 @@ static void put_timings(const struct records *r, const struct options *options) 
   put_number("tCKmax", t[ROOSTCORD_TIMINGS_TCK_MAX]);
   put_number("cas_mask", (unsigned long long)t[ROOSTCORD_TIMINGS_CAS_HIGH] << 32 | t[ROOSTCORD_TIMINGS_CAS_LOW]);
   for (int i = 0; i < ROOSTCORD_CLOCKS_COUNT; i++) put_number(clock_names[i], t[ROOSTCORD_TIMINGS_TAA + i]);
-  for (int i = 0; i < PAIRS; i++, pair += 2) printf(",\"%s\":{\"ps\":%lu,\"clocks\":%lu}", pair_names[i], (unsigned long)pair[0], (unsigned long)pair[1]);
+  for (int i = 0; i < PAIRS; i++, pair += 2)
+    printf(",\"%s\":{\"ps\":%lu,\"clocks\":%lu}", pair_names[i], (unsigned long)pair[0], (unsigned long)pair[1]);
   put_number("data_rate", t[ROOSTCORD_TIMINGS_DATA_RATE]);
   putchar('}');
 }

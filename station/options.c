@@ -53,12 +53,10 @@ static const char forms[] =
     "something could not be read or written; 3 the words of the command line make no sense. With several images the largest counts.\n";
 
 static const struct option longs[] = {
-    {"burst", required_argument, NULL, 'b'},    {"bursts", no_argument, NULL, 'l'},
-    {"strict", no_argument, NULL, 's'},         {"identity", no_argument, NULL, 'i'},
-    {"timings", no_argument, NULL, 't'},        {"explain", no_argument, NULL, 'e'},
-    {"json", no_argument, NULL, 'j'},           {"report", required_argument, NULL, 'o'},
-    {"read-report", required_argument, NULL, 'R'}, {"version", no_argument, NULL, 'V'},
-    {"help", no_argument, NULL, 'h'},           {NULL, 0, NULL, 0}};
+    {"burst", required_argument, NULL, 'b'}, {"bursts", no_argument, NULL, 'l'},       {"strict", no_argument, NULL, 's'},
+    {"identity", no_argument, NULL, 'i'},    {"timings", no_argument, NULL, 't'},      {"explain", no_argument, NULL, 'e'},
+    {"json", no_argument, NULL, 'j'},        {"report", required_argument, NULL, 'o'}, {"read-report", required_argument, NULL, 'R'},
+    {"version", no_argument, NULL, 'V'},     {"help", no_argument, NULL, 'h'},         {NULL, 0, NULL, 0}};
 
 static const char shorts[] = ":b:lsitejo:R:Vh"; /* the colon in front: a missing value is told from an unknown option */
 

@@ -65,7 +65,8 @@ static void print_timings(const struct records *r, const struct options *options
     if (table) printf(" %lu clocks", (unsigned long)r->clocks[i]);
     printf("\n");
   }
-  for (int i = 0; i < PAIRS; i++, pair += 2) printf("%s %lu ps, at least %lu clocks\n", pair_names[i], (unsigned long)pair[0], (unsigned long)pair[1]);
+  for (int i = 0; i < PAIRS; i++, pair += 2)
+    printf("%s %lu ps, at least %lu clocks\n", pair_names[i], (unsigned long)pair[0], (unsigned long)pair[1]);
   if (table) return;
   printf("no clock table: tCKmin is 0\n");
   if (options->explain) printf("  %s\n", explain_refusal(r->clocks_answer, ROOSTCORD_TIMINGS_NEED, text));

@@ -41,7 +41,8 @@ static void say_why(struct input *input, const struct feed_result *fed) {
   if (fed->end == FEED_FAILED) snprintf(why, WHY_MAX, "reading failed at offset 0x%lx (%lu): %s", asked, asked, strerror(fed->error));
   else if (fed->end == FEED_REFUSED)
     snprintf(why, WHY_MAX, "refused %d: more than %d bytes", (int)ROOSTCORD_NUMBER(fed->refusal), ROOSTCORD_IMAGE_MAX);
-  else if (fed->end == FEED_GAVE_UP) snprintf(why, WHY_MAX, "offset 0x%lx (%lu) was asked for again and again, and did not come", asked, asked);
+  else if (fed->end == FEED_GAVE_UP)
+    snprintf(why, WHY_MAX, "offset 0x%lx (%lu) was asked for again and again, and did not come", asked, asked);
   else snprintf(why, WHY_MAX, "offset 0x%lx (%lu) is missing, and there is no going back from 0x%lx (%lu)", asked, asked, came, came);
 }
 
@@ -106,7 +107,8 @@ static enum status show_image(struct subject *subject, const uint8_t *state, con
 }
 
 /* An image that is not whole. Nothing of it is listed; too long a one is, as refused. */
-static enum status show_fault(const struct subject *subject, const struct input *input, const struct feed_result *fed, const struct options *options) {
+static enum status show_fault(const struct subject *subject, const struct input *input, const struct feed_result *fed,
+                              const struct options *options) {
   tell(input);
   if (options->report) fprintf(stderr, "station: %s: no report was written\n", options->report);
   if (fed->end == FEED_REFUSED && options->json) json_refused(subject, fed->refusal, options);
