@@ -125,8 +125,9 @@ static struct burst ask_log(void *context, size_t offset, size_t len) {
   return burst;
 }
 
-static void tell_refused(void *context, const struct burst *burst, int32_t answer) {
-  const struct log *log = context;
+void log_tell_refused(void *context, const struct burst *burst, int32_t answer) {
+  struct log *log = context;
+  log->refused++;
   fprintf(stderr, "station: %s: ", log->name);
   if (log->given) fprintf(stderr, "line %lu: ", log->given);
   fprintf(stderr, "refused %d: %s offset 0x%lx (%lu), and 0x%lx (%lu) bytes are taken\n", (int)ROOSTCORD_NUMBER(answer),
@@ -136,5 +137,5 @@ static void tell_refused(void *context, const struct burst *burst, int32_t answe
 
 struct reader log_reader(struct log *log, FILE *file, const char *name) {
   *log = (struct log){.file = file, .name = name};
-  return (struct reader){ask_log, tell_refused, log, LOG_TRIES};
+  return (struct reader){ask_log, log_tell_refused, log, LOG_TRIES};
 }

@@ -33,19 +33,21 @@ enum {
 
 struct log {
   FILE *file;
-  const char *name;    /* for what is told on standard error */
-  const char *fault;   /* why the line that was read last is none; NULL while all were lines */
-  unsigned long line;  /* the number of that line */
-  unsigned long given; /* the number of the line that was handed on last; 0 for the end of the file */
-  size_t offset;       /* its offset */
-  size_t end;          /* where the furthest line ends */
-  bool over;           /* the end was told */
-  size_t len;          /* of the text */
+  const char *name;      /* for what is told on standard error */
+  const char *fault;     /* why the line that was read last is none; NULL while all were lines */
+  unsigned long line;    /* the number of that line */
+  unsigned long given;   /* the number of the line that was handed on last; 0 for the end of the file */
+  size_t offset;         /* its offset */
+  size_t end;            /* where the furthest line ends */
+  bool over;             /* the end was told */
+  unsigned long refused; /* how many lines the library refused 5 */
+  size_t len;            /* of the text */
   char text[LOG_LINE_MAX + 1];
   uint8_t bytes[LOG_LINE_MAX / 2];
 };
 
-/* A line that the library refuses 5 is told on standard error, with its number. */
+/* A line that the library refuses 5 is told on standard error, with its number, by log_tell_refused. */
 struct reader log_reader(struct log *log, FILE *file, const char *name);
+void log_tell_refused(void *context, const struct burst *burst, int32_t answer);
 
 #endif

@@ -1,7 +1,17 @@
 /* roostcord.h: the Roostcord library, libroostcord.a. C99 and C++.
  *
- * Every call ends with an answer, whatever it is lent. An answer of 0 or more is a count. Below zero it is minus a refusal word,
- * and then nothing that was lent has changed.
+ * Every call comes back with one number, whatever it is lent.
+ *
+ *   0 or more     It was done. The number counts what was written: bytes of a report, numbers of a list, bytes taken.
+ *   below 0       It was refused. Nothing was written: every lent buffer is as it was before the call.
+ *
+ * A refusal has a number, and some carry one or two values. Three macros take them out of the answer. For example, 16 bytes of an image
+ * are taken, and offset 0 comes again:
+ *
+ *   int32_t answer = roostcord_pieces_feed(state, sizeof state, 0, bytes, 16);
+ *
+ * The answer is -4101. ROOSTCORD_REFUSED(answer) is true, so nothing was taken. ROOSTCORD_NUMBER(answer) is 5, ROOSTCORD_WRONG_OFFSET.
+ * ROOSTCORD_FIRST(answer) is 16, the offset to read at. (4101 is 5 + 256 * 16.)
  *
  * What the caller owes, since no library can see it: each pointer leads to that many initialised elements (NULL is fine with a
  * count of 0), a uint32_t or uint16_t pointer is aligned as its type asks, no two lent buffers of one call overlap, and nothing
@@ -13,11 +23,36 @@
 #include <stddef.h>
 #include <stdint.h>
 
+/*---- the version of this header ----*/
+
+#define ROOSTCORD_VERSION_MAJOR 1
+#define ROOSTCORD_VERSION_MINOR 0
+#define ROOSTCORD_VERSION_PATCH 0
+/* as one number, which grows with every version, and as text: "1.0.0" */
+#define ROOSTCORD_VERSION (ROOSTCORD_VERSION_MAJOR * 65536 + ROOSTCORD_VERSION_MINOR * 256 + ROOSTCORD_VERSION_PATCH)
+#define ROOSTCORD_VERSION_STRING \
+  ROOSTCORD_TEXT(ROOSTCORD_VERSION_MAJOR) "." ROOSTCORD_TEXT(ROOSTCORD_VERSION_MINOR) "." ROOSTCORD_TEXT(ROOSTCORD_VERSION_PATCH)
+#define ROOSTCORD_TEXT(word) ROOSTCORD_QUOTED(word)
+#define ROOSTCORD_QUOTED(word) #word
+
+/* An answer that is dropped is a refusal that nobody sees. Compilers that can warn of it are asked to. */
+#if defined(__cplusplus) && __cplusplus >= 201703L
+#define ROOSTCORD_MUST_USE [[nodiscard]]
+#elif !defined(__cplusplus) && defined(__STDC_VERSION__) && __STDC_VERSION__ >= 202311L
+#define ROOSTCORD_MUST_USE [[nodiscard]]
+#elif defined(__GNUC__)
+#define ROOSTCORD_MUST_USE __attribute__((warn_unused_result))
+#else
+#define ROOSTCORD_MUST_USE
+#endif
+
 #ifdef __cplusplus
 extern "C" {
 #endif
 
-/* A refusal word is number + 256 * first value + 2^20 * second value. These take an answer below zero apart. */
+/*---- refusals ----*/
+
+/* An answer below zero is minus (number + 256 * first value + 2^20 * second value). These take it apart. */
 #define ROOSTCORD_REFUSED(answer) ((answer) < 0)
 #define ROOSTCORD_NUMBER(answer) (-(answer) & 0xFF)
 #define ROOSTCORD_FIRST(answer) ((-(answer) >> 8) & 0xFFF)
@@ -25,77 +60,253 @@ extern "C" {
 
 /* Refusal numbers. What is not said to carry a value carries none. */
 enum {
-  ROOSTCORD_TRUNCATED = 1,        /* the image is shorter than the decoder needs: 236 bytes for identity, 94 for timings */
+  ROOSTCORD_TRUNCATED = 1,        /* the image is shorter than the decoder needs */
   ROOSTCORD_NOT_DDR5 = 2,         /* byte 2 is not 0x12; first: the byte */
-  ROOSTCORD_UNKNOWN_CODE = 3,     /* a code outside its table; first: the field, 1 to 9; second: the code */
+  ROOSTCORD_UNKNOWN_CODE = 3,     /* a code outside its table; first: the field, ROOSTCORD_FIELD_..; second: the code */
   ROOSTCORD_LIST_TOO_SHORT = 4,   /* the lent list or state has too few places */
   ROOSTCORD_WRONG_OFFSET = 5,     /* the piece's offset is not the count taken; first: that count */
   ROOSTCORD_TOO_LONG = 6,         /* the total would pass 2,048 bytes */
-  ROOSTCORD_ZERO_CLOCK = 7,       /* a clock table with tCK 0 */
+  ROOSTCORD_ZERO_CLOCK = 7,       /* a clock table with tCKmin 0 */
   ROOSTCORD_BUFFER_TOO_SMALL = 8, /* the buffer is too small for the report */
-  ROOSTCORD_REPORT_CUT = 9,       /* fewer bytes than the report says it has */
+  ROOSTCORD_REPORT_CUT = 9,       /* fewer bytes than the report says it has, or fewer than two */
   ROOSTCORD_REPORT_VERSION = 10,  /* a report of another version than 1 */
   ROOSTCORD_REPORT_MALFORMED = 11 /* no report of version 1 */
 };
 
+/* The fields of refusal 3, in the order in which they are checked. */
 enum {
-  ROOSTCORD_REPORT_MAX = 215,     /* no report is longer */
-  ROOSTCORD_REPORT_NUMBERS = 91,  /* the flags and six numbers for each of fifteen findings: no report has more */
-  ROOSTCORD_IDENTITY_COUNT = 18,
-  ROOSTCORD_TIMINGS_COUNT = 30,
-  ROOSTCORD_CAS_LATENCIES_MAX = 40,
-  ROOSTCORD_CLOCKS_COUNT = 9,
-  ROOSTCORD_STATE_SIZE = 512,
-  ROOSTCORD_IMAGE_MAX = 2048      /* of an image that is fed in pieces; the whole-image calls take any length */
+  ROOSTCORD_FIELD_SPD_BYTES = 1,       /* byte 0, bits 6-4 */
+  ROOSTCORD_FIELD_MODULE_TYPE = 2,     /* byte 3, bits 3-0 */
+  ROOSTCORD_FIELD_DIE_GIGABITS = 3,    /* byte 4, bits 4-0 */
+  ROOSTCORD_FIELD_PACKAGE = 4,         /* byte 4, bits 7-5 */
+  ROOSTCORD_FIELD_IO_WIDTH = 5,        /* byte 6, bits 7-5 */
+  ROOSTCORD_FIELD_BANK_GROUPS = 6,     /* byte 7, bits 7-5 */
+  ROOSTCORD_FIELD_BANKS_PER_GROUP = 7, /* byte 7, bits 2-0 */
+  ROOSTCORD_FIELD_BUS_WIDTH = 8,       /* byte 235, bits 2-0 */
+  ROOSTCORD_FIELD_CHANNELS = 9         /* byte 235, bits 7-5 */
 };
 
-/* Lint an image into a report, version 1: the count of bytes written. Refused 8. A decoder's refusal is part of the report (its
- * flags), not of the answer; roostcord_identity and roostcord_timings tell it with its number and values. A report is: two bytes,
- * high first, that count the bytes behind them; 1; flags (bit 0 identity decoded, bit 1 timings decoded); the number of findings;
- * and for each finding fourteen bytes: code, sub, and three 32-bit numbers, high byte first. */
-int32_t roostcord_lint(const uint8_t *image, size_t image_len, uint8_t *report, size_t report_len);
+/*---- sizes ----*/
 
-/* Read a report, version 1: 1 + 6 * n numbers for n findings, into a list of at least 91 places. Refused, in this order: 4, 9, 11 for
- * length 0, 10, 11 for the rest. The numbers: the flags; then for each finding its code, severity (0 error, 1 warning, 2 info), sub
- * and three numbers. Bytes behind the report are not looked at. */
-int32_t roostcord_report(const uint8_t *report, size_t report_len, uint32_t *out, size_t out_len);
+enum {
+  ROOSTCORD_IMAGE_MAX = 2048, /* of an image that is fed in pieces; the whole-image calls take any length */
+  ROOSTCORD_STATE_SIZE = 512,
+  ROOSTCORD_IDENTITY_NEEDS = 236, /* bytes of an image; a shorter one is refused 1 */
+  ROOSTCORD_TIMINGS_NEED = 94,
+  ROOSTCORD_IDENTITY_COUNT = 18, /* numbers of a list */
+  ROOSTCORD_TIMINGS_COUNT = 30,
+  ROOSTCORD_CLOCKS_COUNT = 9,
+  ROOSTCORD_CAS_LATENCIES_MAX = 40,
+  ROOSTCORD_FINDINGS_MAX = 15,
+  ROOSTCORD_FINDING_COUNT = 6,   /* numbers of a finding */
+  ROOSTCORD_REPORT_NUMBERS = 91, /* the flags and six numbers for each of fifteen findings: no report has more */
+  ROOSTCORD_REPORT_MAX = 215     /* no report has more bytes */
+};
 
-/* Identity: 18 numbers. Refused 4, 1, 2, 3. In order: SPD bytes; revision major, minor; byte 2; module code; hybrid; gigabits per
- * die; package (1 monolithic, 2 dual-die, 3 3DS); dies; rows; columns; I/O width; bank groups; banks per group; ranks; asymmetric;
- * channels; bus width. */
-int32_t roostcord_identity(const uint8_t *image, size_t image_len, uint32_t *out, size_t out_len);
+/*---- the numbers of a report ----*/
 
-/* Timings: 30 numbers, times in picoseconds. Refused 4, 1. In order: tCKmin; tCKmax; the CAS mask's low 32 bits; its high 8; tAA;
- * tRCD; tRP; tRAS; tRC; tWR; tRFC1; tRFC2; tRFCsb; then time and clocks of tRRD_L, tCCD_L, tCCD_L_WR, tCCD_L_WR2, tFAW, tWTR_L,
- * tWTR_S, tRTP; then the data rate in MT/s. */
-int32_t roostcord_timings(const uint8_t *image, size_t image_len, uint32_t *out, size_t out_len);
+/* Their places: the flags, and from ROOSTCORD_REPORT_FINDINGS on six numbers for each finding. */
+enum { ROOSTCORD_REPORT_FLAGS = 0, ROOSTCORD_REPORT_FINDINGS = 1 };
 
-/* The supported CAS latencies, ascending: up to 40 numbers into a list of at least 40 places. Refused 4, 1. */
-int32_t roostcord_cas_latencies(const uint8_t *image, size_t image_len, uint16_t *out, size_t out_len);
+/* The bits of the flags: that record was decoded. */
+enum { ROOSTCORD_FLAG_IDENTITY = 1, ROOSTCORD_FLAG_TIMINGS = 2 };
 
-/* The clock table: 9 counts of tCKmin, for tAA, tRCD, tRP, tRAS, tRC, tWR, tRFC1, tRFC2, tRFCsb. Refused 4, 1, 7. */
-int32_t roostcord_clocks(const uint8_t *image, size_t image_len, uint32_t *out, size_t out_len);
+/* The places within a finding. Numbers that a code does not list are 0. */
+enum {
+  ROOSTCORD_FINDING_CODE,
+  ROOSTCORD_FINDING_SEVERITY,
+  ROOSTCORD_FINDING_SUB,
+  ROOSTCORD_FINDING_FIRST,
+  ROOSTCORD_FINDING_SECOND,
+  ROOSTCORD_FINDING_THIRD
+};
 
-/* An image that arrives in pieces. The state is the first 512 bytes of `state`; the caller keeps it between calls and writes it by
- * these calls alone. A piece goes with the offset at which its bytes were read. It is taken exactly when that is the count of bytes
- * taken and the total stays within 2,048; a piece that is refused leaves the state as it was. After refusal 5, read again at the count
- * that it carries: to send the same bytes with that offset would put them where they do not belong, and no library can see it. */
+/* Codes, with the numbers that they list. Times are in picoseconds. */
+enum {
+  ROOSTCORD_CODE_NON_INTEGER_DEVICE_COUNT = 1,  /* error: bus width, I/O width */
+  ROOSTCORD_CODE_TRC_IDENTITY_MISMATCH = 2,     /* error: tRC, tRAS, tRP */
+  ROOSTCORD_CODE_TIMING_ORDERING_VIOLATION = 3, /* error: the time that must be the larger, the other */
+  ROOSTCORD_CODE_NON_INTEGER_CAS_LATENCY = 4,   /* warning: tAA, tCK */
+  ROOSTCORD_CODE_CAS_LATENCY_NOT_SUPPORTED = 5, /* error: the latency */
+  ROOSTCORD_CODE_NON_INTEGER_CLOCK_TIMING = 6,  /* warning: the time, tCK */
+  ROOSTCORD_CODE_NON_STANDARD_DATA_RATE = 7,    /* info: MT/s */
+  ROOSTCORD_CODE_RESERVED_BYTES_NONZERO = 8,    /* warning: offset and value of the first such byte of a region */
+  ROOSTCORD_CODE_PACKAGE_DIE_COUNT_MISMATCH = 9 /* error: dies */
+};
 
-/* A state that has taken nothing: 0. Refused 4. */
-int32_t roostcord_pieces_fresh(uint8_t *state, size_t state_len);
+enum { ROOSTCORD_SEVERITY_ERROR = 0, ROOSTCORD_SEVERITY_WARNING = 1, ROOSTCORD_SEVERITY_INFO = 2 };
 
-/* Feed a piece: the count of bytes taken with it. Refused 4, 5, 6. */
-int32_t roostcord_pieces_feed(uint8_t *state, size_t state_len, size_t offset, const uint8_t *piece, size_t piece_len);
+/* Subs: which times, or which package. The other codes have none. */
+enum {
+  ROOSTCORD_SUB_NONE = 0,
+  ROOSTCORD_SUB_TRAS_TRCD = 1, /* code 3 */
+  ROOSTCORD_SUB_TRC_TRAS = 2,
+  ROOSTCORD_SUB_TRCD = 1, /* code 6 */
+  ROOSTCORD_SUB_TRP = 2,
+  ROOSTCORD_SUB_MONOLITHIC = 1, /* code 9 */
+  ROOSTCORD_SUB_DUAL_DIE = 2,
+  ROOSTCORD_SUB_3DS = 3
+};
 
-/* The count of bytes taken. Refused 4. */
-int32_t roostcord_pieces_taken(const uint8_t *state, size_t state_len);
+/*---- the numbers of the records ----*/
 
-/* The calls above, for the image that has arrived. Refused 4 for a short state, then as above. */
-int32_t roostcord_pieces_lint(const uint8_t *state, size_t state_len, uint8_t *report, size_t report_len);
-int32_t roostcord_pieces_identity(const uint8_t *state, size_t state_len, uint32_t *out, size_t out_len);
-int32_t roostcord_pieces_timings(const uint8_t *state, size_t state_len, uint32_t *out, size_t out_len);
-int32_t roostcord_pieces_cas_latencies(const uint8_t *state, size_t state_len, uint16_t *out, size_t out_len);
-int32_t roostcord_pieces_clocks(const uint8_t *state, size_t state_len, uint32_t *out, size_t out_len);
+/* Their places in the list of roostcord_identity. */
+enum {
+  ROOSTCORD_IDENTITY_SPD_BYTES,
+  ROOSTCORD_IDENTITY_REVISION_MAJOR,
+  ROOSTCORD_IDENTITY_REVISION_MINOR,
+  ROOSTCORD_IDENTITY_DEVICE_TYPE, /* byte 2: ROOSTCORD_DEVICE_DDR5, since nothing else is decoded */
+  ROOSTCORD_IDENTITY_MODULE_TYPE, /* ROOSTCORD_MODULE_.. */
+  ROOSTCORD_IDENTITY_HYBRID,      /* 0 or 1 */
+  ROOSTCORD_IDENTITY_DIE_GIGABITS,
+  ROOSTCORD_IDENTITY_PACKAGE, /* ROOSTCORD_PACKAGE_.. */
+  ROOSTCORD_IDENTITY_DIES,
+  ROOSTCORD_IDENTITY_ROW_BITS,
+  ROOSTCORD_IDENTITY_COLUMN_BITS,
+  ROOSTCORD_IDENTITY_IO_WIDTH,
+  ROOSTCORD_IDENTITY_BANK_GROUPS,
+  ROOSTCORD_IDENTITY_BANKS_PER_GROUP,
+  ROOSTCORD_IDENTITY_RANKS,
+  ROOSTCORD_IDENTITY_ASYMMETRIC, /* 0 or 1 */
+  ROOSTCORD_IDENTITY_CHANNELS,
+  ROOSTCORD_IDENTITY_BUS_WIDTH
+};
+
+enum { ROOSTCORD_DEVICE_DDR5 = 0x12 };
+
+enum {
+  ROOSTCORD_MODULE_RDIMM = 1,
+  ROOSTCORD_MODULE_UDIMM = 2,
+  ROOSTCORD_MODULE_SODIMM = 3,
+  ROOSTCORD_MODULE_LRDIMM = 4,
+  ROOSTCORD_MODULE_CUDIMM = 5,
+  ROOSTCORD_MODULE_CSOUDIMM = 6,
+  ROOSTCORD_MODULE_MRDIMM = 7,
+  ROOSTCORD_MODULE_CAMM2 = 8,
+  ROOSTCORD_MODULE_DDIMM = 10,
+  ROOSTCORD_MODULE_SOLDER_DOWN = 11
+};
+
+enum { ROOSTCORD_PACKAGE_MONOLITHIC = 1, ROOSTCORD_PACKAGE_DUAL_DIE = 2, ROOSTCORD_PACKAGE_3DS = 3 };
+
+/* Places in the list of roostcord_timings. Times are in picoseconds; the last eight are followed by their least count of clocks. */
+enum {
+  ROOSTCORD_TIMINGS_TCK_MIN,
+  ROOSTCORD_TIMINGS_TCK_MAX,
+  ROOSTCORD_TIMINGS_CAS_LOW,  /* the low 32 bits of the CAS mask: bit k stands for CL 20 + 2k */
+  ROOSTCORD_TIMINGS_CAS_HIGH, /* its high 8 */
+  ROOSTCORD_TIMINGS_TAA,
+  ROOSTCORD_TIMINGS_TRCD,
+  ROOSTCORD_TIMINGS_TRP,
+  ROOSTCORD_TIMINGS_TRAS,
+  ROOSTCORD_TIMINGS_TRC,
+  ROOSTCORD_TIMINGS_TWR,
+  ROOSTCORD_TIMINGS_TRFC1,
+  ROOSTCORD_TIMINGS_TRFC2,
+  ROOSTCORD_TIMINGS_TRFCSB,
+  ROOSTCORD_TIMINGS_TRRD_L,
+  ROOSTCORD_TIMINGS_TRRD_L_CLOCKS,
+  ROOSTCORD_TIMINGS_TCCD_L,
+  ROOSTCORD_TIMINGS_TCCD_L_CLOCKS,
+  ROOSTCORD_TIMINGS_TCCD_L_WR,
+  ROOSTCORD_TIMINGS_TCCD_L_WR_CLOCKS,
+  ROOSTCORD_TIMINGS_TCCD_L_WR2,
+  ROOSTCORD_TIMINGS_TCCD_L_WR2_CLOCKS,
+  ROOSTCORD_TIMINGS_TFAW,
+  ROOSTCORD_TIMINGS_TFAW_CLOCKS,
+  ROOSTCORD_TIMINGS_TWTR_L,
+  ROOSTCORD_TIMINGS_TWTR_L_CLOCKS,
+  ROOSTCORD_TIMINGS_TWTR_S,
+  ROOSTCORD_TIMINGS_TWTR_S_CLOCKS,
+  ROOSTCORD_TIMINGS_TRTP,
+  ROOSTCORD_TIMINGS_TRTP_CLOCKS,
+  ROOSTCORD_TIMINGS_DATA_RATE /* MT/s */
+};
+
+/* Places in the list of roostcord_clocks: the same times, in the same order, as from ROOSTCORD_TIMINGS_TAA on. */
+enum {
+  ROOSTCORD_CLOCKS_TAA,
+  ROOSTCORD_CLOCKS_TRCD,
+  ROOSTCORD_CLOCKS_TRP,
+  ROOSTCORD_CLOCKS_TRAS,
+  ROOSTCORD_CLOCKS_TRC,
+  ROOSTCORD_CLOCKS_TWR,
+  ROOSTCORD_CLOCKS_TRFC1,
+  ROOSTCORD_CLOCKS_TRFC2,
+  ROOSTCORD_CLOCKS_TRFCSB
+};
+
+/*---- the calls: what each does, what it answers, and when it refuses, in that order ----*/
+
+/* Tells the version of the library that is linked.
+ * Answers a number like ROOSTCORD_VERSION; where the two differ, header and library are not of one build.
+ * Never refuses. */
+ROOSTCORD_MUST_USE uint32_t roostcord_version(void);
+
+/* Lints an image and writes the report, version 1: two bytes, high first, that count the bytes behind them; 1; the flags; the number of
+ * findings; and for each finding fourteen bytes: code, sub, and three 32-bit numbers, high byte first.
+ * Answers the count of bytes written, at most ROOSTCORD_REPORT_MAX.
+ * Refuses 8 where report_len is less than that count. An image that cannot be decoded is not refused: the flags of its report say so, and
+ * roostcord_identity and roostcord_timings tell why. */
+ROOSTCORD_MUST_USE int32_t roostcord_lint(const uint8_t *image, size_t image_len, uint8_t *report, size_t report_len);
+
+/* Reads a report, version 1, into a list of numbers: the flags, and ROOSTCORD_FINDING_COUNT for each finding. Bytes behind the report
+ * are not looked at.
+ * Answers the count of numbers: 1 + 6 * findings.
+ * Refuses 4 where out_len is less than ROOSTCORD_REPORT_NUMBERS; 9; 11 for a report of length 0; 10; 11 for all else. */
+ROOSTCORD_MUST_USE int32_t roostcord_report(const uint8_t *report, size_t report_len, uint32_t *out, size_t out_len);
+
+/* Decodes the identity of an image into a list of numbers; ROOSTCORD_IDENTITY_.. are their places.
+ * Answers ROOSTCORD_IDENTITY_COUNT.
+ * Refuses 4 where out_len is less than that; 1 where image_len is less than ROOSTCORD_IDENTITY_NEEDS; 3 for the first field; 2; 3 for the
+ * other fields in their order. */
+ROOSTCORD_MUST_USE int32_t roostcord_identity(const uint8_t *image, size_t image_len, uint32_t *out, size_t out_len);
+
+/* Decodes the timings of an image into a list of numbers; ROOSTCORD_TIMINGS_.. are their places.
+ * Answers ROOSTCORD_TIMINGS_COUNT.
+ * Refuses 4 where out_len is less than that; 1 where image_len is less than ROOSTCORD_TIMINGS_NEED. */
+ROOSTCORD_MUST_USE int32_t roostcord_timings(const uint8_t *image, size_t image_len, uint32_t *out, size_t out_len);
+
+/* Lists the CAS latencies that an image supports, ascending.
+ * Answers how many there are, 0 to ROOSTCORD_CAS_LATENCIES_MAX.
+ * Refuses 4 where out_len is less than ROOSTCORD_CAS_LATENCIES_MAX, however few there are; 1 where image_len is less than
+ * ROOSTCORD_TIMINGS_NEED. */
+ROOSTCORD_MUST_USE int32_t roostcord_cas_latencies(const uint8_t *image, size_t image_len, uint16_t *out, size_t out_len);
+
+/* Counts nine times of an image in clocks of tCKmin, rounded up; ROOSTCORD_CLOCKS_.. are their places.
+ * Answers ROOSTCORD_CLOCKS_COUNT.
+ * Refuses 4 where out_len is less than that; 1 where image_len is less than ROOSTCORD_TIMINGS_NEED; 7. */
+ROOSTCORD_MUST_USE int32_t roostcord_clocks(const uint8_t *image, size_t image_len, uint32_t *out, size_t out_len);
+
+/*---- an image that arrives in pieces ----
+ *
+ * The state is the first 512 bytes of `state`; the caller keeps it between calls and writes it by these calls alone. A piece goes with
+ * the offset at which its bytes were read. It is taken exactly when that is the count of bytes taken and the total stays within 2,048.
+ * After refusal 5, read again at the count that it carries: to send the same bytes with that offset would put them where they do not
+ * belong, and no library can see it. */
+
+/* Makes a state that has taken nothing.
+ * Answers 0.
+ * Refuses 4 where state_len is less than ROOSTCORD_STATE_SIZE. */
+ROOSTCORD_MUST_USE int32_t roostcord_pieces_fresh(uint8_t *state, size_t state_len);
+
+/* Takes a piece; an empty one at the right offset changes nothing.
+ * Answers the count of bytes taken, with the piece.
+ * Refuses 4 for a short state; 5; 6. */
+ROOSTCORD_MUST_USE int32_t roostcord_pieces_feed(uint8_t *state, size_t state_len, size_t offset, const uint8_t *piece, size_t piece_len);
+
+/* Says how much was taken.
+ * Answers the count of bytes.
+ * Refuses 4 for a short state. */
+ROOSTCORD_MUST_USE int32_t roostcord_pieces_taken(const uint8_t *state, size_t state_len);
+
+/* These do for the bytes that were taken what the calls without `pieces` do for an image, and answer the same.
+ * Refuse 4 for a short state; then as those calls do. */
+ROOSTCORD_MUST_USE int32_t roostcord_pieces_lint(const uint8_t *state, size_t state_len, uint8_t *report, size_t report_len);
+ROOSTCORD_MUST_USE int32_t roostcord_pieces_identity(const uint8_t *state, size_t state_len, uint32_t *out, size_t out_len);
+ROOSTCORD_MUST_USE int32_t roostcord_pieces_timings(const uint8_t *state, size_t state_len, uint32_t *out, size_t out_len);
+ROOSTCORD_MUST_USE int32_t roostcord_pieces_cas_latencies(const uint8_t *state, size_t state_len, uint16_t *out, size_t out_len);
+ROOSTCORD_MUST_USE int32_t roostcord_pieces_clocks(const uint8_t *state, size_t state_len, uint32_t *out, size_t out_len);
 
 #ifdef __cplusplus
 }

@@ -13,6 +13,21 @@
 #include <sys/wait.h>
 #include <unistd.h>
 
+/* Fails to compile where what is said is not so. */
+#define SURELY(name, what) typedef char surely_##name[(what) ? 1 : -1]
+
+/* The last place of each list and its count; the codes, subs and fields in a row. */
+SURELY(identity_places, ROOSTCORD_IDENTITY_BUS_WIDTH + 1 == ROOSTCORD_IDENTITY_COUNT);
+SURELY(timings_places, ROOSTCORD_TIMINGS_DATA_RATE + 1 == ROOSTCORD_TIMINGS_COUNT);
+SURELY(clocks_places, ROOSTCORD_CLOCKS_TRFCSB + 1 == ROOSTCORD_CLOCKS_COUNT);
+SURELY(clocks_as_timings, ROOSTCORD_TIMINGS_TRFCSB - ROOSTCORD_TIMINGS_TAA == ROOSTCORD_CLOCKS_TRFCSB - ROOSTCORD_CLOCKS_TAA);
+SURELY(pairs_follow, ROOSTCORD_TIMINGS_TRRD_L == ROOSTCORD_TIMINGS_TRFCSB + 1 && ROOSTCORD_TIMINGS_TRTP_CLOCKS + 1 == ROOSTCORD_TIMINGS_DATA_RATE);
+SURELY(finding_places, ROOSTCORD_FINDING_THIRD + 1 == ROOSTCORD_FINDING_COUNT);
+SURELY(report_places, ROOSTCORD_REPORT_FLAGS + 1 == ROOSTCORD_REPORT_FINDINGS);
+SURELY(report_numbers, ROOSTCORD_REPORT_FINDINGS + ROOSTCORD_FINDINGS_MAX * ROOSTCORD_FINDING_COUNT == ROOSTCORD_REPORT_NUMBERS);
+SURELY(report_bytes, 5 + 14 * ROOSTCORD_FINDINGS_MAX == ROOSTCORD_REPORT_MAX);
+SURELY(version, ROOSTCORD_VERSION >> 16 == ROOSTCORD_VERSION_MAJOR && ROOSTCORD_VERSION_MINOR < 256 && ROOSTCORD_VERSION_PATCH < 256);
+
 static long checks, faults;
 
 #define CHECK(what)                                                            \
@@ -46,6 +61,9 @@ static int all(const uint8_t *at, size_t n, uint8_t value) {
   return 1;
 }
 
+/* A state that has taken nothing. */
+static void fresh(uint8_t *state) { CHECK(roostcord_pieces_fresh(state, ROOSTCORD_STATE_SIZE) == 0); }
+
 static int same(const void *a, const void *b, size_t n) { return n == 0 || memcmp(a, b, n) == 0; }
 
 /* A report that must be refused with that number, read from bytes that end at a guard page: nothing is written. */
@@ -61,12 +79,13 @@ static void refused_report(const uint8_t *report, size_t n, int32_t number) {
 
 /* A report of n bytes, as it was written, against the numbers read of it: into lists of every length, and with bytes behind it. */
 static void report_reads_back(const uint8_t *report, size_t n) {
-  static const uint32_t severity_of[] = {0, 0, 0, 0, 1, 0, 1, 2, 1, 0}; /* by code, from 1 on */
+  enum { E = ROOSTCORD_SEVERITY_ERROR, W = ROOSTCORD_SEVERITY_WARNING, I = ROOSTCORD_SEVERITY_INFO, SIX = ROOSTCORD_FINDING_COUNT };
+  static const uint32_t severity_of[] = {0, E, E, E, W, E, W, I, W, E}; /* by code, from 1 on */
   uint8_t *edge = guarded(n), more[256];
   memcpy(edge, report, n);
   memset(more, 0xFF, sizeof more);
   memcpy(more, report, n);
-  int32_t count = 1 + 6 * report[4];
+  int32_t count = ROOSTCORD_REPORT_FINDINGS + SIX * report[4];
   for (size_t len = 0; len <= ROOSTCORD_REPORT_NUMBERS + 2; len++) {
     uint32_t *out = (uint32_t *)guarded(4 * len), again[ROOSTCORD_REPORT_NUMBERS + 2];
     if (len) memset(out, 0xA5, 4 * len);
@@ -76,13 +95,13 @@ static void report_reads_back(const uint8_t *report, size_t n) {
     CHECK(roostcord_report(more, sizeof more, again, len) == a && same(out, again, 4 * len));
     size_t put = a < 0 ? 0 : (size_t)a;
     CHECK(len == 0 || all((uint8_t *)(out + put), 4 * (len - put), 0xA5));
-    CHECK(put == 0 || out[0] == report[3]);
-    for (size_t i = 1; i < put; i += 6) {
-      const uint8_t *f = report + 5 + 14 * (i / 6);
-      CHECK(out[i] == f[0] && out[i + 1] == severity_of[f[0]] && out[i + 2] == f[1]);
+    CHECK(put == 0 || out[ROOSTCORD_REPORT_FLAGS] == report[3]);
+    for (size_t i = ROOSTCORD_REPORT_FINDINGS; i < put; i += SIX) {
+      const uint8_t *f = report + 5 + 14 * (i / SIX);
+      CHECK(out[i + ROOSTCORD_FINDING_CODE] == f[0] && out[i + ROOSTCORD_FINDING_SEVERITY] == severity_of[f[0]] && out[i + ROOSTCORD_FINDING_SUB] == f[1]);
       for (size_t k = 0; k < 3; k++) {
         const uint8_t *b = f + 2 + 4 * k;
-        CHECK(out[i + 3 + k] == ((uint32_t)b[0] << 24 | (uint32_t)b[1] << 16 | (uint32_t)b[2] << 8 | b[3]));
+        CHECK(out[i + ROOSTCORD_FINDING_FIRST + k] == ((uint32_t)b[0] << 24 | (uint32_t)b[1] << 16 | (uint32_t)b[2] << 8 | b[3]));
       }
     }
     release((uint8_t *)out, 4 * len);
@@ -148,7 +167,7 @@ static void every_report_length(const uint8_t *image, size_t n) {
   }
 }
 
-enum { IDENTITY_NEEDS = 236, TIMINGS_NEED = 94, DDR5 = 0x12 };
+enum { IDENTITY_NEEDS = ROOSTCORD_IDENTITY_NEEDS, TIMINGS_NEED = ROOSTCORD_TIMINGS_NEED, DDR5 = ROOSTCORD_DEVICE_DDR5 };
 
 /* The codes of identity in their order, fields 1 to 9: the byte, its lowest bit, how many bits, and which codes are accepted. */
 static const struct field {
@@ -303,12 +322,12 @@ static void pieces(const uint8_t *image, size_t n) {
   short_states(image, n);
   for (size_t burst = 1; burst <= 600; burst += burst < 20 ? 1 : 97) each_twice(state, image, n, burst);
   for (size_t cut = 0; cut <= n; cut++) { /* every cut into two */
-    roostcord_pieces_fresh(state, STATE);
-    roostcord_pieces_feed(state, STATE, 0, image, cut);
-    roostcord_pieces_feed(state, STATE, cut, image + cut, n - cut);
+    fresh(state);
+    CHECK(roostcord_pieces_feed(state, STATE, 0, image, cut) == (int32_t)cut);
+    CHECK(roostcord_pieces_feed(state, STATE, cut, image + cut, n - cut) == (int32_t)n);
     as_whole(state, image, n);
   }
-  roostcord_pieces_fresh(state, STATE);
+  fresh(state);
   CHECK(roostcord_pieces_feed(state, STATE, 0, zeros, IMAGE_MAX + 1) == LONG);
   CHECK(roostcord_pieces_feed(state, STATE, 0, zeros, IMAGE_MAX) == IMAGE_MAX);
   CHECK(roostcord_pieces_feed(state, STATE, IMAGE_MAX, zeros, 0) == IMAGE_MAX && roostcord_pieces_feed(state, STATE, IMAGE_MAX, zeros, 1) == LONG);
@@ -406,7 +425,7 @@ static int false_timings(const uint8_t *state, const uint8_t *image, size_t n) {
 /* Whether a state is that of the first n bytes, in its bytes and in all of its answers. */
 static void holds(const uint8_t *state, const uint8_t *image, size_t n) {
   uint8_t straight[STATE];
-  roostcord_pieces_fresh(straight, STATE);
+  fresh(straight);
   CHECK(roostcord_pieces_feed(straight, STATE, 0, image, n) == (int32_t)n && same(straight, state, STATE));
   as_whole(state, image, n);
 }
@@ -415,7 +434,7 @@ static void holds(const uint8_t *state, const uint8_t *image, size_t n) {
 static enum feed_end unruly_run(struct unruly u, size_t len) {
   uint8_t state[STATE];
   struct reader reader = {ask_unruly, NULL, &u, FEED_TRIES};
-  roostcord_pieces_fresh(state, STATE);
+  fresh(state);
   struct feed_result fed = feed_image(&reader, len, state);
   holds(state, u.image, fed.taken);
   CHECK(u.same <= FEED_TRIES && fed.asked == fed.taken && fed.came == u.last.offset);
@@ -440,7 +459,7 @@ static void unruly_runs(const uint8_t *sample, size_t n) {
     ends[unruly_run(u, len)]++;
     uint8_t state[STATE];
     struct reader reader = {ask_unruly, NULL, &u, FEED_TRIES};
-    roostcord_pieces_fresh(state, STATE);
+    fresh(state);
     int ended = fed_by_arrival(&reader, len, state);
     old_ended += ended;
     old_false += ended && false_timings(state, image, length);
@@ -493,14 +512,14 @@ static void burst_twice(const uint8_t *image, size_t n) {
     if (at == BURST) script[steps] = script[steps - 1], steps++;
   }
   script[steps++] = (struct burst){BURST_END, n, 0, NULL, 0};
-  roostcord_pieces_fresh(state, STATE);
+  fresh(state);
   struct feed_result fed = scripted_run(&s, script, steps, state);
   CHECK(fed.end == FEED_WHOLE && s.asks == steps && s.refusals == 1);
   CHECK(s.offset == BURST && s.answer == -(ROOSTCORD_WRONG_OFFSET + 256 * 2 * BURST) && fed.refusal == s.answer);
   holds(state, image, n);
   struct reader reader = {ask_scripted, NULL, &s, FEED_TRIES};
   s.asks = 0;
-  roostcord_pieces_fresh(state, STATE);
+  fresh(state);
   CHECK(fed_by_arrival(&reader, BURST, state) && false_timings(state, image, n));
   memcpy(shifted, image, 2 * BURST);
   memcpy(shifted + 2 * BURST, image + BURST, n - BURST);
@@ -514,7 +533,7 @@ static void giving_up(const uint8_t *image) {
   struct burst script[2 * FEED_TRIES];
   uint8_t state[STATE];
   struct scripted s;
-  roostcord_pieces_fresh(state, STATE);
+  fresh(state);
   struct feed_result fed = scripted_run(&s, &empty, 1, state); /* an empty burst is no end */
   CHECK(fed.end == FEED_GAVE_UP && s.asks == FEED_TRIES && s.refusals == 0 && fed.refusal == 0 && fed.taken == 0 && fed.asked == 0);
   fed = scripted_run(&s, &end, 1, state); /* nor is an end at another offset than the count taken */
@@ -566,7 +585,7 @@ static void streams(const uint8_t *image, size_t n) {
   reader = stream_reader(&source, ends[0]);
   burst = reader.ask(&source, n, BURST); /* asked for what comes later: what stands next, with its own offset */
   CHECK(burst.kind == BURST_BYTES && burst.offset == 0 && burst.len == BURST && same(burst.bytes, image, BURST));
-  roostcord_pieces_fresh(state, STATE);
+  fresh(state);
   CHECK(roostcord_pieces_feed(state, STATE, burst.offset, burst.bytes, burst.len) == BURST);
   lossy = (struct lossy){reader, 0};
   struct feed_result fed = feed_image(&loses, BURST, state);
@@ -587,7 +606,7 @@ static void file_bursts(int fd, int stream, const uint8_t *image, size_t n, size
   CHECK(reader.ask(&source, 0, len).len == least && lseek(fd, 0, SEEK_CUR) == (off_t)(stream ? least : 0));
   reader = stream ? stream_reader(&source, fd) : file_reader(&source, fd);
   lseek(fd, 0, SEEK_SET);
-  roostcord_pieces_fresh(state, STATE);
+  fresh(state);
   struct feed_result fed = feed_image(&reader, len, state);
   CHECK(fed.end == FEED_WHOLE && fed.refusal == 0);
   holds(state, image, n);
@@ -604,7 +623,7 @@ static void files(const uint8_t *image, size_t n) {
   CHECK(can_seek(fd));
   for (size_t len = 1; len <= 2 * IMAGE_MAX; len += len < 40 ? 1 : 299)
     for (int stream = 0; stream < 2; stream++) file_bursts(fd, stream, image, n, len);
-  roostcord_pieces_fresh(state, STATE);
+  fresh(state);
   lossy = (struct lossy){file_reader(&source, fd), 0}; /* a file is read again where a burst was lost */
   CHECK(feed_image(&loses, BURST, state).end == FEED_WHOLE && lossy.asks == (n + BURST - 1) / BURST + 2);
   holds(state, image, n);

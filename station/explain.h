@@ -1,0 +1,15 @@
+/* explain.h: a sentence for each refusal and each finding, which says which bytes it is about and what to do. The sentences are ASCII
+ * without quotes and backslashes, so they stand in JSON as they are. */
+#ifndef EXPLAIN_H
+#define EXPLAIN_H
+
+#include "roostcord.h"
+
+enum { SENTENCE_MAX = 400 };
+
+/* A decoder's refusal, or that of an image, a burst or a stored report. `needs` is what the decoder needs of an image. */
+const char *explain_refusal(int32_t answer, int needs, char text[SENTENCE_MAX]);
+
+const char *explain_finding(const uint32_t finding[ROOSTCORD_FINDING_COUNT], char text[SENTENCE_MAX]);
+
+#endif

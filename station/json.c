@@ -1,0 +1,195 @@
+/* JSON; json.h says of what. A member begins with its own comma, but for the first of an object. */
+#include "json.h"
+
+#include "explain.h"
+#include "names.h"
+
+#include <stdio.h>
+
+/* How many bytes the character of UTF-8 has that begins here; 0 where none does. It reads no further than a byte 0. */
+static size_t utf8(const unsigned char *at) {
+  static const struct {
+    unsigned char first, last; /* of the first byte */
+    unsigned char least, most; /* of the second */
+    size_t len;
+  } forms[] = {{0x00, 0x7F, 0, 0, 1},       {0xC2, 0xDF, 0x80, 0xBF, 2}, {0xE0, 0xE0, 0xA0, 0xBF, 3},
+               {0xE1, 0xEC, 0x80, 0xBF, 3}, {0xED, 0xED, 0x80, 0x9F, 3}, {0xEE, 0xEF, 0x80, 0xBF, 3},
+               {0xF0, 0xF0, 0x90, 0xBF, 4}, {0xF1, 0xF3, 0x80, 0xBF, 4}, {0xF4, 0xF4, 0x80, 0x8F, 4}};
+  for (size_t k = 0; k < sizeof forms / sizeof *forms; k++) {
+    if (at[0] < forms[k].first || at[0] > forms[k].last) continue;
+    if (forms[k].len > 1 && (at[1] < forms[k].least || at[1] > forms[k].most)) return 0;
+    for (size_t i = 2; i < forms[k].len; i++)
+      if ((at[i] & 0xC0) != 0x80) return 0;
+    return forms[k].len;
+  }
+  return 0;
+}
+
+/* A string. Answers whether all of it is UTF-8. */
+static bool put_string(const char *text) {
+  bool whole = true;
+  putchar('"');
+  for (const unsigned char *at = (const unsigned char *)text; *at != '\0';) {
+    size_t len = utf8(at);
+    if (len == 0) printf("\\ufffd");
+    else if (*at == '"' || *at == '\\') printf("\\%c", *at);
+    else if (*at < ' ' || *at == 0x7F) printf("\\u%04x", *at);
+    else fwrite(at, 1, len, stdout);
+    whole = whole && len > 0;
+    at += len > 0 ? len : 1;
+  }
+  putchar('"');
+  return whole;
+}
+
+static void put_number(const char *key, unsigned long long n) { printf(",\"%s\":%llu", key, n); }
+
+static void put_text(const char *key, const char *text) {
+  printf(",\"%s\":", key);
+  put_string(text);
+}
+
+static void put_flag(const char *key, bool flag) { printf(",\"%s\":%s", key, flag ? "true" : "false"); }
+
+/* What every object begins with. */
+static void begin(const struct subject *subject) {
+  printf("{\"%s\":", subject->kind);
+  if (!put_string(subject->name)) {
+    printf(",\"%s_hex\":\"", subject->kind);
+    for (const char *at = subject->name; *at != '\0'; at++) printf("%02x", (unsigned)(unsigned char)*at);
+    putchar('"');
+  }
+  put_text("version", ROOSTCORD_VERSION_STRING);
+  put_number("status", (unsigned long long)subject->status);
+}
+
+static void put_refusal(const char *key, int32_t answer, int needs, const struct options *options) {
+  char text[SENTENCE_MAX];
+  int number = ROOSTCORD_NUMBER(answer);
+  printf("\"%s\":{\"number\":%d,\"name\":\"%s\"", key, number, refusal_name(number));
+  if (number == ROOSTCORD_NOT_DDR5) put_number("device_type", (unsigned long long)ROOSTCORD_FIRST(answer));
+  if (number == ROOSTCORD_UNKNOWN_CODE) {
+    put_number("field", (unsigned long long)ROOSTCORD_FIRST(answer));
+    put_text("field_name", field_of(ROOSTCORD_FIRST(answer))->name);
+    put_number("code", (unsigned long long)ROOSTCORD_SECOND(answer));
+  }
+  if (options->explain) put_text("explanation", explain_refusal(answer, needs, text));
+  putchar('}');
+}
+
+/* A record that was refused, in place of it. Answers whether it was. */
+static bool put_if_refused(const char *key, int32_t answer, int needs, const struct options *options) {
+  if (!ROOSTCORD_REFUSED(answer)) return false;
+  printf(",\"%s\":{", key);
+  put_refusal("refused", answer, needs, options);
+  putchar('}');
+  return true;
+}
+
+static void put_identity(const struct records *r, const struct options *options) {
+  if (put_if_refused("identity", r->identity_answer, ROOSTCORD_IDENTITY_NEEDS, options)) return;
+  printf(",\"identity\":{");
+  for (int i = 0; i < ROOSTCORD_IDENTITY_COUNT; i++) {
+    const struct identity_field *field = &identity_fields[i];
+    if (i > 0) putchar(',');
+    if (field->kind == YES_OR_NO) printf("\"%s\":%s", field->key, r->identity[i] ? "true" : "false");
+    else printf("\"%s\":%lu", field->key, (unsigned long)r->identity[i]);
+    if (field->kind == MODULE) put_text("module_type_name", module_name(r->identity[i]));
+    if (field->kind == PACKAGE) put_text("package_name", package_name(r->identity[i]));
+  }
+  putchar('}');
+}
+
+static void put_timings(const struct records *r, const struct options *options) {
+  const uint32_t *t = r->timings, *pair = t + ROOSTCORD_TIMINGS_TRRD_L;
+  if (put_if_refused("timings", r->timings_answer, ROOSTCORD_TIMINGS_NEED, options)) return;
+  printf(",\"timings\":{\"tCKmin\":%lu", (unsigned long)t[ROOSTCORD_TIMINGS_TCK_MIN]);
+  put_number("tCKmax", t[ROOSTCORD_TIMINGS_TCK_MAX]);
+  put_number("cas_mask", (unsigned long long)t[ROOSTCORD_TIMINGS_CAS_HIGH] << 32 | t[ROOSTCORD_TIMINGS_CAS_LOW]);
+  for (int i = 0; i < ROOSTCORD_CLOCKS_COUNT; i++) put_number(clock_names[i], t[ROOSTCORD_TIMINGS_TAA + i]);
+  for (int i = 0; i < PAIRS; i++, pair += 2)
+    printf(",\"%s\":{\"ps\":%lu,\"clocks\":%lu}", pair_names[i], (unsigned long)pair[0], (unsigned long)pair[1]);
+  put_number("data_rate", t[ROOSTCORD_TIMINGS_DATA_RATE]);
+  putchar('}');
+}
+
+static void put_clocks(const struct records *r, const struct options *options) {
+  if (put_if_refused("clocks", r->clocks_answer, ROOSTCORD_TIMINGS_NEED, options)) return;
+  printf(",\"clocks\":{");
+  for (int i = 0; i < ROOSTCORD_CLOCKS_COUNT; i++) printf("%s\"%s\":%lu", i > 0 ? "," : "", clock_names[i], (unsigned long)r->clocks[i]);
+  putchar('}');
+}
+
+static void put_cas(const struct records *r, const struct options *options) {
+  if (put_if_refused("cas_latencies", r->cas_answer, ROOSTCORD_TIMINGS_NEED, options)) return;
+  printf(",\"cas_latencies\":[");
+  for (int32_t i = 0; i < r->cas_answer; i++) printf("%s%d", i > 0 ? "," : "", r->cas[i]);
+  putchar(']');
+}
+
+static void put_finding(const uint32_t *f, const struct options *options) {
+  char text[SENTENCE_MAX];
+  uint32_t code = f[ROOSTCORD_FINDING_CODE], sub = f[ROOSTCORD_FINDING_SUB];
+  const struct rule *rule = rule_of(code);
+  printf("{\"code\":%lu", (unsigned long)code);
+  put_text("name", rule->name);
+  put_text("severity", severity_name(f[ROOSTCORD_FINDING_SEVERITY]));
+  put_number("sub", sub);
+  if (sub_name(code, sub)) put_text("sub_name", sub_name(code, sub));
+  printf(",\"numbers\":{");
+  for (int k = 0; k < RULE_NUMBERS && rule->numbers[k]; k++)
+    printf("%s\"%s\":%lu", k > 0 ? "," : "", rule->numbers[k], (unsigned long)f[ROOSTCORD_FINDING_FIRST + k]);
+  putchar('}');
+  if (options->explain) put_text("explanation", explain_finding(f, text));
+  putchar('}');
+}
+
+static void put_findings(const struct findings *findings, const struct options *options) {
+  put_number("flags", findings->numbers[ROOSTCORD_REPORT_FLAGS]);
+  put_flag("identity_decoded", decoded(findings, ROOSTCORD_FLAG_IDENTITY));
+  put_flag("timings_decoded", decoded(findings, ROOSTCORD_FLAG_TIMINGS));
+  printf(",\"findings\":[");
+  const char *comma = "";
+  for (const uint32_t *f = NULL; next_finding(findings, &f); comma = ",") {
+    fputs(comma, stdout);
+    put_finding(f, options);
+  }
+  putchar(']');
+}
+
+void json_image(const struct subject *subject, const struct records *r, const struct options *options) {
+  begin(subject);
+  put_number("bytes", (unsigned long long)r->bytes);
+  if (options->bursts) put_number("refused_bursts", subject->refused_bursts);
+  put_identity(r, options);
+  put_timings(r, options);
+  put_clocks(r, options);
+  put_cas(r, options);
+  put_findings(&r->findings, options);
+  printf("}\n");
+}
+
+void json_refused(const struct subject *subject, int32_t answer, const struct options *options) {
+  begin(subject);
+  putchar(',');
+  put_refusal("refused", answer, 0, options);
+  printf("}\n");
+}
+
+void json_unread(const struct subject *subject, const char *why) {
+  begin(subject);
+  put_text("unread", why);
+  printf("}\n");
+}
+
+void json_stored(const struct subject *subject, const struct findings *findings, size_t bytes, const struct options *options) {
+  begin(subject);
+  put_number("bytes", bytes);
+  if (ROOSTCORD_REFUSED(findings->answer)) {
+    putchar(',');
+    put_refusal("refused", findings->answer, 0, options);
+  } else {
+    put_findings(findings, options);
+  }
+  printf("}\n");
+}

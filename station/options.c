@@ -1,0 +1,140 @@
+/* The words of the command line; options.h says what becomes of them. */
+#define _GNU_SOURCE /* getopt_long */
+#include "options.h"
+
+#include <getopt.h>
+#include <stdio.h>
+#include <stdlib.h>
+#include <string.h>
+
+enum { BURST = 16 }; /* where --burst is not given */
+
+static const char usage[] =
+    "usage: station [OPTIONS] [--burst N] IMAGE...\n"
+    "       station [OPTIONS] --bursts LOG...\n"
+    "       station [OPTIONS] --read-report FILE\n"
+    "\n"
+    "Lints SPD images of DDR5 modules. IMAGE is a file (a Linux eeprom file will do), or - for standard input.\n"
+    "\n"
+    "  -b, --burst N           read and feed N bytes at a time, 1 to 2048 (16 if not given)\n"
+    "  -l, --bursts            read logs of the bursts of an image, instead of images; - is standard input here too\n"
+    "  -s, --strict            let every finding count, not errors alone\n"
+    "  -i, --identity          print the identity as well\n"
+    "  -t, --timings           print the timings and the clock table as well\n"
+    "  -e, --explain           say after each refusal and finding which bytes it is about, and what to do\n"
+    "  -j, --json              print a JSON object on a line for each image, with all of the above\n"
+    "  -o, --report FILE       write the report of the one image to FILE, in the library's form\n"
+    "  -R, --read-report FILE  list a report that was written so; - is standard input\n"
+    "  -V, --version           the version\n"
+    "  -h, --help              this text\n"
+    "\n"
+    "Options may stand before and behind names; what follows -- is a name.\n"
+    "\n";
+
+static const char forms[] =
+    "A log has a burst on each line, its offset and its bytes in hex, in the order in which they came, as xxd or hexdump -Cv print them:\n"
+    "\n"
+    "  00000010: 0000 0000 a001 f203 720d 0000 0000 0041  ........r......A\n"
+    "  00000010  00 00 00 00 a0 01 f2 03  72 0d 00 00 00 00 00 41  |........r......A|\n"
+    "  00000200\n"
+    "\n"
+    "  xxd          offset, colon, blank, groups of bytes with one blank between two; two blanks or the end of the line end the bytes\n"
+    "  hexdump -Cv  offset, two blanks, up to 16 bytes in its columns, and |text| at the end of the line\n"
+    "  either       offsets have 1 to 8 digits; digits are of either case; the text is not looked at; CR LF ends a line as well\n"
+    "\n"
+    "An offset alone is the end of the image, and no burst may follow it; without it the image ends where its furthest burst does.\n"
+    "Blank lines and lines that begin with # are skipped. A line * , which stands for lines that were left out, is refused, and so\n"
+    "is any other line. The words of xxd -e and the bits of xxd -b look like bytes and are not: do not log with them.\n"
+    "\n"
+    "Each burst is fed with its own offset. One that comes again is told on standard error as refused 5, and changes nothing; where\n"
+    "bytes are missing, their offset is told there, and nothing is listed.\n"
+    "\n"
+    "Status: 0 nothing of severity error (with --strict: no finding at all); 1 findings of that kind; 2 an image was refused, or\n"
+    "something could not be read or written; 3 the words of the command line make no sense. With several images the largest counts.\n";
+
+static const struct option longs[] = {
+    {"burst", required_argument, NULL, 'b'}, {"bursts", no_argument, NULL, 'l'},       {"strict", no_argument, NULL, 's'},
+    {"identity", no_argument, NULL, 'i'},    {"timings", no_argument, NULL, 't'},      {"explain", no_argument, NULL, 'e'},
+    {"json", no_argument, NULL, 'j'},        {"report", required_argument, NULL, 'o'}, {"read-report", required_argument, NULL, 'R'},
+    {"version", no_argument, NULL, 'V'},     {"help", no_argument, NULL, 'h'},         {NULL, 0, NULL, 0}};
+
+static const char shorts[] = ":b:lsitejo:R:Vh"; /* the colon in front: a missing value is told from an unknown option */
+
+static bool misused(const char *what, const char *word) {
+  fprintf(stderr, "station: %s%s (station --help says how)\n", what, word);
+  return false;
+}
+
+/* An option that getopt_long does not take. A long one is the word before the next; a short one may stand among others. */
+static bool unknown(const char *word) {
+  const char letter[] = {'-', (char)optopt, '\0'};
+  if (strncmp(word, "--", 2) != 0) return misused("unknown option ", letter);
+  return misused(strchr(word, '=') && optopt ? "no value goes with this option: " : "unknown option, or one of several: ", word);
+}
+
+/* A number from 1 to the length of an image, in digits alone; or 0. */
+static size_t burst_length(const char *word) {
+  size_t digits = strspn(word, "0123456789");
+  if (digits == 0 || digits > 4 || word[digits] != '\0') return 0;
+  long n = strtol(word, NULL, 10);
+  return n > ROOSTCORD_IMAGE_MAX ? 0 : (size_t)n;
+}
+
+/* A file's name behind an option, which is given once. */
+static bool take_name(const char **name, const char *option) {
+  if (*name) return misused("given twice: ", option);
+  *name = optarg;
+  return true;
+}
+
+/* Takes one option; false where it is misused. */
+static bool take_one(int letter, const char *word, struct options *options) {
+  switch (letter) {
+    case 'b':
+      options->burst = burst_length(optarg);
+      return options->burst > 0 || misused("--burst wants a number from 1 to 2048, not ", optarg);
+    case 'l': options->bursts = true; return true;
+    case 's': options->strict = true; return true;
+    case 'i': options->identity = true; return true;
+    case 't': options->timings = true; return true;
+    case 'e': options->explain = true; return true;
+    case 'j': options->json = true; return true;
+    case 'o': return take_name(&options->report, "--report");
+    case 'R': return take_name(&options->read_report, "--read-report");
+    case ':': return misused("a value is missing behind ", word);
+    default: return unknown(word);
+  }
+}
+
+/* Whether the options go together. */
+static bool agree(const struct options *o) {
+  if (o->bursts && o->burst) return misused("the bursts of a log have lengths of their own, so --burst does not go with --bursts", "");
+  if (o->read_report && (o->burst || o->bursts || o->identity || o->timings || o->report))
+    return misused("a stored report has no bursts, identity or timings: only --strict, --explain and --json go with --read-report", "");
+  if (o->read_report && o->count > 0) return misused("no image goes with --read-report, but there is ", o->names[0]);
+  if (!o->read_report && o->count == 0) return misused("no image named", "");
+  if (o->report && o->count > 1) return misused("--report takes the report of one image, and several are named", "");
+  if (o->report && strcmp(o->report, "-") == 0) return misused("--report wants the name of a file, not -", "");
+  return true;
+}
+
+bool take_options(int argc, char **argv, struct options *options, enum status *status) {
+  int letter;
+  *status = MISUSED;
+  *options = (struct options){.burst = 0};
+  opterr = 0; /* what is wrong is told here */
+  while ((letter = getopt_long(argc, argv, shorts, longs, NULL)) != -1) {
+    if (letter == 'h' || letter == 'V') {
+      *status = CLEAN;
+      if (letter == 'V') puts("station " ROOSTCORD_VERSION_STRING); /* of the header; roostcord_version() is to be held to it here */
+      else fputs(usage, stdout), fputs(forms, stdout);
+      return false;
+    }
+    if (!take_one(letter, argv[optind - 1], options)) return false;
+  }
+  options->names = argv + optind;
+  options->count = argc - optind;
+  if (!agree(options)) return false;
+  if (!options->burst) options->burst = BURST;
+  return true;
+}

@@ -1,0 +1,95 @@
+/* The plain listing; print.h says of what. */
+#include "print.h"
+
+#include "explain.h"
+#include "names.h"
+
+#include <stdio.h>
+
+/* The number of a refusal, and what it carries. */
+static void print_refusal(int32_t answer, int needs, const struct options *options) {
+  char text[SENTENCE_MAX];
+  int number = ROOSTCORD_NUMBER(answer);
+  printf("refused %d", number);
+  if (number == ROOSTCORD_NOT_DDR5 || number == ROOSTCORD_UNKNOWN_CODE) printf(" %d", ROOSTCORD_FIRST(answer));
+  if (number == ROOSTCORD_UNKNOWN_CODE) printf(" %d", ROOSTCORD_SECOND(answer));
+  printf("\n");
+  if (options->explain) printf("  %s\n", explain_refusal(answer, needs, text));
+}
+
+void print_refused(int32_t answer, const struct options *options) { print_refusal(answer, 0, options); }
+
+/* A decoder's line: ok, or its refusal. */
+static void print_decoder(const char *name, int32_t answer, int needs, const struct options *options) {
+  printf("%s ", name);
+  if (ROOSTCORD_REFUSED(answer)) print_refusal(answer, needs, options);
+  else printf("ok\n");
+}
+
+static void print_findings(const struct findings *findings, const struct options *options) {
+  char text[SENTENCE_MAX];
+  for (const uint32_t *f = NULL; next_finding(findings, &f);) {
+    const struct rule *rule = rule_of(f[ROOSTCORD_FINDING_CODE]);
+    printf("%s %s", rule->name, severity_name(f[ROOSTCORD_FINDING_SEVERITY]));
+    if (f[ROOSTCORD_FINDING_SUB] != ROOSTCORD_SUB_NONE) printf(" %lu", (unsigned long)f[ROOSTCORD_FINDING_SUB]);
+    for (int k = 0; k < RULE_NUMBERS && rule->numbers[k]; k++) printf(" %lu", (unsigned long)f[ROOSTCORD_FINDING_FIRST + k]);
+    printf("\n");
+    if (options->explain) printf("  %s\n", explain_finding(f, text));
+  }
+  printf("findings %lu\n", (unsigned long)count_findings(findings));
+}
+
+static void print_identity(const uint32_t *identity) {
+  for (int i = 0; i < ROOSTCORD_IDENTITY_COUNT; i++) {
+    unsigned long n = identity[i];
+    printf("%s ", identity_fields[i].label);
+    switch (identity_fields[i].kind) {
+      case COUNT: printf("%lu\n", n); break;
+      case YES_OR_NO: printf("%s\n", n ? "yes" : "no"); break;
+      case MODULE: printf("%lu %s\n", n, module_name(identity[i])); break;
+      case PACKAGE: printf("%lu %s\n", n, package_name(identity[i])); break;
+    }
+  }
+}
+
+static void print_timings(const struct records *r, const struct options *options) {
+  char text[SENTENCE_MAX];
+  const uint32_t *t = r->timings, *pair = t + ROOSTCORD_TIMINGS_TRRD_L;
+  bool table = !ROOSTCORD_REFUSED(r->clocks_answer);
+  printf("tCKmin %lu ps\ntCKmax %lu ps\n", (unsigned long)t[ROOSTCORD_TIMINGS_TCK_MIN], (unsigned long)t[ROOSTCORD_TIMINGS_TCK_MAX]);
+  printf("data rate %lu MT/s\nCAS latencies", (unsigned long)t[ROOSTCORD_TIMINGS_DATA_RATE]);
+  for (int32_t i = 0; i < r->cas_answer; i++) printf(" %d", r->cas[i]);
+  printf("\n");
+  for (int i = 0; i < ROOSTCORD_CLOCKS_COUNT; i++) {
+    printf("%s %lu ps", clock_names[i], (unsigned long)t[ROOSTCORD_TIMINGS_TAA + i]);
+    if (table) printf(" %lu clocks", (unsigned long)r->clocks[i]);
+    printf("\n");
+  }
+  for (int i = 0; i < PAIRS; i++, pair += 2)
+    printf("%s %lu ps, at least %lu clocks\n", pair_names[i], (unsigned long)pair[0], (unsigned long)pair[1]);
+  if (table) return;
+  printf("no clock table: tCKmin is 0\n");
+  if (options->explain) printf("  %s\n", explain_refusal(r->clocks_answer, ROOSTCORD_TIMINGS_NEED, text));
+}
+
+void print_image(const struct records *r, const struct options *options) {
+  printf("bytes %ld\n", (long)r->bytes);
+  print_decoder("identity", r->identity_answer, ROOSTCORD_IDENTITY_NEEDS, options);
+  print_decoder("timings", r->timings_answer, ROOSTCORD_TIMINGS_NEED, options);
+  print_findings(&r->findings, options);
+  if (options->identity && !ROOSTCORD_REFUSED(r->identity_answer)) print_identity(r->identity);
+  if (options->timings && !ROOSTCORD_REFUSED(r->timings_answer)) print_timings(r, options);
+}
+
+void print_stored(const struct findings *findings, size_t bytes, const struct options *options) {
+  printf("report bytes %lu\n", (unsigned long)bytes);
+  if (ROOSTCORD_REFUSED(findings->answer)) {
+    printf("report ");
+    print_refusal(findings->answer, 0, options);
+    return;
+  }
+  printf("flags %lu\n", (unsigned long)findings->numbers[ROOSTCORD_REPORT_FLAGS]);
+  printf("identity %s\n", decoded(findings, ROOSTCORD_FLAG_IDENTITY) ? "ok" : "refused");
+  printf("timings %s\n", decoded(findings, ROOSTCORD_FLAG_TIMINGS) ? "ok" : "refused");
+  print_findings(findings, options);
+}

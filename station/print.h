@@ -1,0 +1,16 @@
+/* print.h: the plain listing, on standard output. */
+#ifndef PRINT_H
+#define PRINT_H
+
+#include "options.h"
+
+/* An image: bytes, decoders and findings; identity and timings where they are asked for. */
+void print_image(const struct records *records, const struct options *options);
+
+/* An image that the library did not take. */
+void print_refused(int32_t answer, const struct options *options);
+
+/* A stored report, of which there are so many bytes. */
+void print_stored(const struct findings *findings, size_t bytes, const struct options *options);
+
+#endif

@@ -1,0 +1,35 @@
+/* The questions to the library; records.h says what comes of them. */
+#include "records.h"
+
+void ask_records(const uint8_t state[ROOSTCORD_STATE_SIZE], struct records *r) {
+  r->bytes = roostcord_pieces_taken(state, ROOSTCORD_STATE_SIZE);
+  r->identity_answer = roostcord_pieces_identity(state, ROOSTCORD_STATE_SIZE, r->identity, ROOSTCORD_IDENTITY_COUNT);
+  r->timings_answer = roostcord_pieces_timings(state, ROOSTCORD_STATE_SIZE, r->timings, ROOSTCORD_TIMINGS_COUNT);
+  r->clocks_answer = roostcord_pieces_clocks(state, ROOSTCORD_STATE_SIZE, r->clocks, ROOSTCORD_CLOCKS_COUNT);
+  r->cas_answer = roostcord_pieces_cas_latencies(state, ROOSTCORD_STATE_SIZE, r->cas, ROOSTCORD_CAS_LATENCIES_MAX);
+  r->report_answer = roostcord_pieces_lint(state, ROOSTCORD_STATE_SIZE, r->report, sizeof r->report);
+  r->findings.answer = r->report_answer; /* no report is longer than the buffer, and what is written is read back */
+  if (ROOSTCORD_REFUSED(r->report_answer)) return;
+  r->findings.answer = roostcord_report(r->report, (size_t)r->report_answer, r->findings.numbers, ROOSTCORD_REPORT_NUMBERS);
+}
+
+size_t count_findings(const struct findings *findings) {
+  return ROOSTCORD_REFUSED(findings->answer) ? 0 : (size_t)(findings->answer - ROOSTCORD_REPORT_FINDINGS) / ROOSTCORD_FINDING_COUNT;
+}
+
+bool next_finding(const struct findings *findings, const uint32_t **finding) {
+  const uint32_t *first = findings->numbers + ROOSTCORD_REPORT_FINDINGS;
+  *finding = *finding ? *finding + ROOSTCORD_FINDING_COUNT : first;
+  return (size_t)(*finding - first) < count_findings(findings) * ROOSTCORD_FINDING_COUNT;
+}
+
+bool decoded(const struct findings *findings, uint32_t flag) {
+  return !ROOSTCORD_REFUSED(findings->answer) && (findings->numbers[ROOSTCORD_REPORT_FLAGS] & flag) != 0;
+}
+
+enum status status_of(const struct findings *findings, bool strict) {
+  if (!decoded(findings, ROOSTCORD_FLAG_IDENTITY) || !decoded(findings, ROOSTCORD_FLAG_TIMINGS)) return UNREADABLE;
+  for (const uint32_t *finding = NULL; next_finding(findings, &finding);)
+    if (strict || finding[ROOSTCORD_FINDING_SEVERITY] == ROOSTCORD_SEVERITY_ERROR) return FOUND;
+  return CLEAN;
+}

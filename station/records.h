@@ -1,0 +1,48 @@
+/* records.h: all that the library says of an image, or of a stored report, in one place. */
+#ifndef RECORDS_H
+#define RECORDS_H
+
+#include "roostcord.h"
+
+#include <stdbool.h>
+
+/* How the program ends. */
+enum status {
+  CLEAN = 0,      /* nothing that counts was found */
+  FOUND = 1,      /* a finding of severity error, or any with --strict */
+  UNREADABLE = 2, /* something was refused, or could not be read or written */
+  MISUSED = 3     /* the words of the command line do not make sense */
+};
+
+/* The numbers of a report: how many, or the refusal. */
+struct findings {
+  int32_t answer;
+  uint32_t numbers[ROOSTCORD_REPORT_NUMBERS];
+};
+
+/* Each record with the library's answer: a list is there where its answer is no refusal. */
+struct records {
+  int32_t bytes;
+  int32_t identity_answer, timings_answer, clocks_answer, cas_answer, report_answer;
+  uint32_t identity[ROOSTCORD_IDENTITY_COUNT];
+  uint32_t timings[ROOSTCORD_TIMINGS_COUNT];
+  uint32_t clocks[ROOSTCORD_CLOCKS_COUNT];
+  uint16_t cas[ROOSTCORD_CAS_LATENCIES_MAX];
+  uint8_t report[ROOSTCORD_REPORT_MAX];
+  struct findings findings;
+};
+
+/* Asks the library all of it about a state. */
+void ask_records(const uint8_t state[ROOSTCORD_STATE_SIZE], struct records *records);
+
+/* Whether the findings have another one, from *finding on: NULL at first, then the one that was handed out last. */
+bool next_finding(const struct findings *findings, const uint32_t **finding);
+
+size_t count_findings(const struct findings *findings);
+
+bool decoded(const struct findings *findings, uint32_t flag);
+
+/* What a report comes to. A record that was not decoded counts like a refusal. */
+enum status status_of(const struct findings *findings, bool strict);
+
+#endif
