@@ -118,6 +118,15 @@ static bool agree(const struct options *o) {
   return true;
 }
 
+/* The version of the header, which must be that of the library that is linked. */
+static enum status tell_version(void) {
+  puts("station " ROOSTCORD_VERSION_STRING);
+  if (roostcord_version() == ROOSTCORD_VERSION) return CLEAN;
+  fprintf(stderr, "station: the library is of another version than its header: %lu, not %lu\n", (unsigned long)roostcord_version(),
+          (unsigned long)ROOSTCORD_VERSION);
+  return UNREADABLE;
+}
+
 bool take_options(int argc, char **argv, struct options *options, enum status *status) {
   int letter;
   *status = MISUSED;
@@ -125,9 +134,8 @@ bool take_options(int argc, char **argv, struct options *options, enum status *s
   opterr = 0; /* what is wrong is told here */
   while ((letter = getopt_long(argc, argv, shorts, longs, NULL)) != -1) {
     if (letter == 'h' || letter == 'V') {
-      *status = CLEAN;
-      if (letter == 'V') puts("station " ROOSTCORD_VERSION_STRING); /* of the header; roostcord_version() is to be held to it here */
-      else fputs(usage, stdout), fputs(forms, stdout);
+      *status = letter == 'V' ? tell_version() : CLEAN;
+      if (letter == 'h') fputs(usage, stdout), fputs(forms, stdout);
       return false;
     }
     if (!take_one(letter, argv[optind - 1], options)) return false;

@@ -639,6 +639,7 @@ int main(int argc, char **argv) {
     fputs("usage: test IMAGE...\n", stderr);
     return 2;
   }
+  CHECK(roostcord_version() == ROOSTCORD_VERSION);
   for (int i = 1; i < argc; i++) {
     FILE *file = fopen(argv[i], "rb");
     if (!file) {
