@@ -1,6 +1,6 @@
 /* Tests of libroostcord.a from C: buffers that end at a guard page or are exactly as long as told, every buffer length, NULL with
  * length 0, refusals that write nothing, and a state in lent bytes against the whole image. And of the feeding loop: readers that
- * repeat, lose, cut and mix bursts, against the whole image. Usage: test IMAGE... */
+ * repeat, lose, cut and mix bursts, against the whole image. Usage: library IMAGE... */
 #define _DEFAULT_SOURCE
 #include "feed.h"
 #include "log.h"
@@ -636,7 +636,7 @@ static void files(const uint8_t *image, size_t n) {
 int main(int argc, char **argv) {
   static uint8_t image[2 * IMAGE_MAX];
   if (argc < 2) {
-    fputs("usage: test IMAGE...\n", stderr);
+    fputs("usage: library IMAGE...\n", stderr);
     return 2;
   }
   CHECK(roostcord_version() == ROOSTCORD_VERSION);
