@@ -408,9 +408,10 @@ fn put_timings(t: Timings, out: &mut [u32])
         t.twtr_s.clocks.0 as u32,
         t.trtp.time.0,
         t.trtp.clocks.0 as u32,
-        t.base_data_rate_mt_s(),
     ];
     put(&numbers, out);
+    // The rate branches, and behind the others it keeps none of them waiting.
+    out[29] = t.base_data_rate_mt_s();
 }
 
 fn put_clocks(c: ClockTable, out: &mut [u32])
