@@ -7,6 +7,7 @@ use findings::Findings;
 use findings::Severity;
 use libc::STDIN_FILENO;
 use libc::STDOUT_FILENO;
+use pieces::LONGEST;
 use reading::Refusal;
 
 fn text(s: &[u8]) {
@@ -97,9 +98,9 @@ fn lines(found: Findings) {
 }
 
 fn main() {
-    let mut buffer = [0u8; 2049];
+    let mut buffer = [0u8; LONGEST + 1];
     let got = io::read_full(STDIN_FILENO, &mut buffer);
-    if 2048 < got {
+    if LONGEST < got {
         text(b"refused 6\n");
         return;
     }
