@@ -6,10 +6,9 @@
 //! which the Rust does not have, is held against document 01's definition of it over the Rust's times.
 
 use crate::images::Rng;
+use crate::numbers::{DEVICE_TYPE, Row, field_number, identity_numbers, row};
 use crate::ours;
-use spdr::{
-    ClockTimingParam, DecodeError, DeviceType, Finding, IdentityAndBase, ModuleType, PackageType, Severity, TimingOrder, Timings,
-};
+use spdr::{DecodeError, Finding, IdentityAndBase, Severity, Timings};
 
 const IDENTITY_BYTES: usize = 236;
 /// What lent lists hold before a call. A refused call must leave it.
@@ -129,79 +128,14 @@ fn expected_identity(image: &[u8], rust: &Result<IdentityAndBase, DecodeError>) 
 }
 
 fn decode_error(e: DecodeError) -> i32 {
-    let field = match e {
-        DecodeError::Truncated { .. } => return refusal(1, 0, 0),
-        DecodeError::UnknownEnum { field, value } => (field, i32::from(value)),
-        _ => return refusal(255, 0, 0),
-    };
-    let number = match field.0 {
-        "DRAM device type" => return refusal(2, field.1, 0),
-        "SPD device size" => 1,
-        "module type" => 2,
-        "SDRAM density per die" => 3,
-        "SDRAM package type" => 4,
-        "SDRAM I/O width" => 5,
-        "bank groups" => 6,
-        "banks per bank group" => 7,
-        "primary bus width" => 8,
-        "channels per DIMM" => 9,
-        _ => return refusal(255, 0, 0),
-    };
-    refusal(3, number, field.1)
-}
-
-fn identity_numbers(d: &IdentityAndBase) -> [u32; 18] {
-    [
-        d.spd_bytes_total.into(),
-        d.spd_revision.major.into(),
-        d.spd_revision.minor.into(),
-        device_code(d.device_type),
-        module_code(d.module_type),
-        d.hybrid.into(),
-        d.density_per_die.gigabits().into(),
-        package_code(d.package_type),
-        d.die_count.into(),
-        d.row_address_bits.into(),
-        d.column_address_bits.into(),
-        d.io_width.bits().into(),
-        d.bank_groups.count().into(),
-        d.banks_per_bank_group.count().into(),
-        d.package_ranks_per_channel.into(),
-        d.rank_mix_asymmetric.into(),
-        d.channels_per_dimm.into(),
-        d.primary_bus_width_bits.into(),
-    ]
-}
-
-fn device_code(device: DeviceType) -> u32 {
-    match device {
-        DeviceType::Ddr3 => 0x0B,
-        DeviceType::Ddr4 => 0x0C,
-        DeviceType::Ddr5 => 0x12,
-        DeviceType::Lpddr5 => 0x13,
-    }
-}
-
-fn module_code(module: ModuleType) -> u32 {
-    match module {
-        ModuleType::Rdimm => 1,
-        ModuleType::Udimm => 2,
-        ModuleType::Sodimm => 3,
-        ModuleType::Lrdimm => 4,
-        ModuleType::Cudimm => 5,
-        ModuleType::Csoudimm => 6,
-        ModuleType::Mrdimm => 7,
-        ModuleType::Camm2 => 8,
-        ModuleType::Ddimm => 10,
-        ModuleType::SolderDown => 11,
-    }
-}
-
-fn package_code(package: PackageType) -> u32 {
-    match package {
-        PackageType::Monolithic => 1,
-        PackageType::DualDie => 2,
-        PackageType::ThreeDs => 3,
+    match e {
+        DecodeError::Truncated { .. } => refusal(1, 0, 0),
+        DecodeError::UnknownEnum { field: DEVICE_TYPE, value } => refusal(2, value.into(), 0),
+        DecodeError::UnknownEnum { field, value } => match field_number(field) {
+            Some(number) => refusal(3, number as i32, value.into()),
+            None => refusal(255, 0, 0),
+        },
+        _ => refusal(255, 0, 0),
     }
 }
 
@@ -258,9 +192,6 @@ fn clock_table(t: &Timings) -> Result<[u32; 9], i32> {
     Ok(times.map(|time| time.0.div_ceil(tck)))
 }
 
-/// A finding in document 01's report form: code, sub, three numbers.
-type Row = [u32; 5];
-
 /// Document 01's severity of each code; none has code 0.
 const SEVERITIES: [Option<Severity>; 10] = [
     None,
@@ -274,35 +205,6 @@ const SEVERITIES: [Option<Severity>; 10] = [
     Some(Severity::Warning),
     Some(Severity::Error),
 ];
-
-fn row(f: &Finding) -> Row {
-    match *f {
-        Finding::NonIntegerDeviceCount { bus_width_bits, io_width_bits } => {
-            [1, 0, bus_width_bits.into(), io_width_bits.into(), 0]
-        }
-        Finding::TrcIdentityMismatch { trc_ps, tras_ps, trp_ps } => [2, 0, trc_ps, tras_ps, trp_ps],
-        Finding::TimingOrderingViolation { relation, larger_ps, smaller_ps } => {
-            let sub = match relation {
-                TimingOrder::RasGeRcd => 1,
-                TimingOrder::RcGeRas => 2,
-            };
-            [3, sub, larger_ps, smaller_ps, 0]
-        }
-        Finding::NonIntegerCasLatency { taa_ps, tck_ps } => [4, 0, taa_ps, tck_ps, 0],
-        Finding::CasLatencyNotSupported { cas_latency } => [5, 0, cas_latency.into(), 0, 0],
-        Finding::NonIntegerClockTiming { param, value_ps, tck_ps } => {
-            let sub = match param {
-                ClockTimingParam::Trcd => 1,
-                ClockTimingParam::Trp => 2,
-            };
-            [6, sub, value_ps, tck_ps, 0]
-        }
-        Finding::NonStandardDataRate { data_rate_mt_s } => [7, 0, data_rate_mt_s, 0, 0],
-        Finding::ReservedBytesNonZero { offset, value } => [8, 0, offset as u32, value.into(), 0],
-        Finding::PackageDieCountMismatch { package_type, die_count } => [9, package_code(package_type), die_count.into(), 0, 0],
-        _ => [0; 5],
-    }
-}
 
 /// The findings and flags of a written report, read by document 01's form.
 fn parsed(word: i32, report: &[u8]) -> Result<(u8, Vec<Row>), String> {

@@ -4,6 +4,7 @@
 
 mod compare;
 mod images;
+mod numbers;
 mod ours;
 
 use compare::{Answers, Cut, Verdict};

@@ -26,10 +26,10 @@
 //! The domain: byte 2 is 0x12 or one that the Rust refuses too, and an image is zero from byte 640 on but for the block of a rated
 //! profile. An image under 236 bytes with a bad code is of kind 2: the Rust names the code, document 01 asks for refusal 1 first.
 
-use spdr::{
-    ClockTimingParam, DecodeError, DensityPerDie, DeviceType, Finding, IdentityAndBase, ModuleType, PackageType, Severity,
-    TimingOrder, TimingPair, Timings, Xmp,
-};
+mod numbers;
+
+use numbers::{DEVICE_TYPE, field_number, identity_numbers, row};
+use spdr::{DecodeError, Finding, Severity, TimingPair, Timings, Xmp};
 use std::collections::{BTreeMap, BTreeSet};
 use std::io::Write;
 
@@ -46,77 +46,11 @@ fn bad_code(error: DecodeError) -> Option<Vec<u32>> {
     let DecodeError::UnknownEnum { field, value } = error else {
         return None;
     };
-    let field = match field {
-        "DRAM device type" => return Some(vec![2, value.into(), 0]),
-        "SPD device size" => 1,
-        "module type" => 2,
-        "SDRAM density per die" => 3,
-        "SDRAM package type" => 4,
-        "SDRAM I/O width" => 5,
-        "bank groups" => 6,
-        "banks per bank group" => 7,
-        "primary bus width" => 8,
-        "channels per DIMM" => 9,
-        other => panic!("a field that document 01 does not have: {other}"),
-    };
-    Some(vec![3, field, value.into()])
-}
-
-fn device_code(d: DeviceType) -> u32 {
-    match d {
-        DeviceType::Ddr3 => 0x0B,
-        DeviceType::Ddr4 => 0x0C,
-        DeviceType::Ddr5 => 0x12,
-        DeviceType::Lpddr5 => 0x13,
+    if field == DEVICE_TYPE {
+        return Some(vec![2, value.into(), 0]);
     }
-}
-
-fn module_code(m: ModuleType) -> u32 {
-    match m {
-        ModuleType::Rdimm => 1,
-        ModuleType::Udimm => 2,
-        ModuleType::Sodimm => 3,
-        ModuleType::Lrdimm => 4,
-        ModuleType::Cudimm => 5,
-        ModuleType::Csoudimm => 6,
-        ModuleType::Mrdimm => 7,
-        ModuleType::Camm2 => 8,
-        ModuleType::Ddimm => 10,
-        ModuleType::SolderDown => 11,
-    }
-}
-
-fn package_code(p: PackageType) -> u32 {
-    match p {
-        PackageType::Monolithic => 1,
-        PackageType::DualDie => 2,
-        PackageType::ThreeDs => 3,
-    }
-}
-
-fn identity_numbers(d: &IdentityAndBase) -> Vec<u32> {
-    let density: DensityPerDie = d.density_per_die;
-    vec![
-        0,
-        d.spd_bytes_total.into(),
-        d.spd_revision.major.into(),
-        d.spd_revision.minor.into(),
-        device_code(d.device_type),
-        module_code(d.module_type),
-        d.hybrid.into(),
-        density.gigabits().into(),
-        package_code(d.package_type),
-        d.die_count.into(),
-        d.row_address_bits.into(),
-        d.column_address_bits.into(),
-        d.io_width.bits().into(),
-        d.bank_groups.count().into(),
-        d.banks_per_bank_group.count().into(),
-        d.package_ranks_per_channel.into(),
-        d.rank_mix_asymmetric.into(),
-        d.channels_per_dimm.into(),
-        d.primary_bus_width_bits.into(),
-    ]
+    let number = field_number(field).unwrap_or_else(|| panic!("a field that document 01 does not have: {field}"));
+    Some(vec![3, number, value.into()])
 }
 
 fn timing_numbers(t: &Timings) -> Vec<u32> {
@@ -137,33 +71,9 @@ fn finding_numbers(f: &Finding) -> [u32; 6] {
         Severity::Warning => 2,
         Severity::Info => 3,
     };
-    let (code, sub, numbers) = match *f {
-        Finding::NonIntegerDeviceCount { bus_width_bits, io_width_bits } => {
-            (1, 0, [bus_width_bits.into(), io_width_bits.into(), 0])
-        }
-        Finding::TrcIdentityMismatch { trc_ps, tras_ps, trp_ps } => (2, 0, [trc_ps, tras_ps, trp_ps]),
-        Finding::TimingOrderingViolation { relation, larger_ps, smaller_ps } => {
-            let sub = match relation {
-                TimingOrder::RasGeRcd => 1,
-                TimingOrder::RcGeRas => 2,
-            };
-            (3, sub, [larger_ps, smaller_ps, 0])
-        }
-        Finding::NonIntegerCasLatency { taa_ps, tck_ps } => (4, 0, [taa_ps, tck_ps, 0]),
-        Finding::CasLatencyNotSupported { cas_latency } => (5, 0, [cas_latency.into(), 0, 0]),
-        Finding::NonIntegerClockTiming { param, value_ps, tck_ps } => {
-            let sub = match param {
-                ClockTimingParam::Trcd => 1,
-                ClockTimingParam::Trp => 2,
-            };
-            (6, sub, [value_ps, tck_ps, 0])
-        }
-        Finding::NonStandardDataRate { data_rate_mt_s } => (7, 0, [data_rate_mt_s, 0, 0]),
-        Finding::ReservedBytesNonZero { offset, value } => (8, 0, [offset as u32, value.into(), 0]),
-        Finding::PackageDieCountMismatch { package_type, die_count } => (9, package_code(package_type), [die_count.into(), 0, 0]),
-        _ => panic!("a finding that document 01 does not have"),
-    };
-    [code, severity, sub, numbers[0], numbers[1], numbers[2]]
+    let [code, sub, first, second, third] = row(f);
+    assert!(code != 0, "a finding that document 01 does not have");
+    [code, severity, sub, first, second, third]
 }
 
 fn findings_of(image: &[u8]) -> Vec<[u32; 6]> {
@@ -186,7 +96,7 @@ struct Answers {
 fn answers(image: &[u8]) -> Answers {
     let mut listed = false;
     let identity = match spdr::decode_identity_and_base(image) {
-        Ok(d) => identity_numbers(&d),
+        Ok(d) => [&[0], &identity_numbers(&d)[..]].concat(),
         Err(error) => match bad_code(error) {
             Some(_) if image.len() < 236 => {
                 listed = true;
