@@ -1,4 +1,4 @@
-// The station's library: what C calls. An answer of 0 or more is a count; below zero it is minus a refusal word, and then nothing
+// The station's library: what C calls. An answer of 0 or more is a count. Below zero it is a refusal: its word with a minus sign, and nothing
 // that was lent has changed. station/roostcord.h is its header.
 ghost use mathlib.Core.Path.{_≡_};
 ghost use Prim.Native.Nat.{_*_, _<_, _≤_};
