@@ -11,13 +11,13 @@ use decoders::timing::Picoseconds;
 use decoders::timing::TimingPair;
 use decoders::timing::Timings;
 use decoders::timing::TimingsAnswer;
-use findings::Finding;
 use findings::Findings;
-use findings::Severity;
-use libc::STDOUT_FILENO;
 use pieces::Fed;
 use pieces::FeedAnswer;
 use pieces::Pieces;
+use printing::number;
+use printing::refused;
+use printing::text;
 use reading::Refusal;
 
 // What is answered of an image: both records as numbers, and the findings.
@@ -34,15 +34,6 @@ struct Differing {
     findings: usize,
 }
 
-fn text(s: &[u8]) {
-    io::write_all(STDOUT_FILENO, s);
-}
-
-fn number(n: usize) {
-    text(b" ");
-    io::print_decimal(STDOUT_FILENO, n as u64);
-}
-
 // Writes an answer, and hands the state back.
 fn told(fed: Fed) -> Pieces {
     let answer = fed.answer;
@@ -51,13 +42,7 @@ fn told(fed: Fed) -> Pieces {
             text(b" taken");
             number(total);
         }
-        FeedAnswer::Refused(why) => {
-            text(b" refused");
-            number(why.number() as usize);
-            if 0 < why.carries() {
-                number(why.first());
-            }
-        }
+        FeedAnswer::Refused(why) => refused(why),
     }
     fed.state
 }
@@ -228,39 +213,6 @@ fn unequal(a: [u64; 23], b: [u64; 23]) -> usize {
     count
 }
 
-fn rank(s: Severity) -> u8 {
-    match s {
-        Severity::Error => 1,
-        Severity::Warning => 2,
-        Severity::Info => 3,
-    }
-}
-
-fn same_numbers(a: Finding, b: Finding) -> bool {
-    if a.first != b.first {
-        return false;
-    }
-    if a.second != b.second {
-        return false;
-    }
-    a.third == b.third
-}
-
-fn same_finding(a: Finding, b: Finding) -> bool {
-    if a.code != b.code {
-        return false;
-    }
-    if a.sub != b.sub {
-        return false;
-    }
-    let left = a.severity;
-    let right = b.severity;
-    if rank(left) == rank(right) {
-        return same_numbers(a, b);
-    }
-    false
-}
-
 // The codes of the findings.
 fn codes(found: Findings) {
     let items = found.items;
@@ -281,7 +233,7 @@ fn unequal_findings(a: Findings, b: Findings) -> usize {
     let mut count: usize = 0;
     let mut i: usize = 0;
     while i < 15 {
-        if same_finding(left[i], right[i]) {} else {
+        if left[i].same(right[i]) {} else {
             if count < 15 {
                 count += 1;
             }

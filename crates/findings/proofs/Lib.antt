@@ -1,3 +1,4 @@
+pub mod Same
 pub mod Laws
 pub mod Walked
 pub mod Walk

@@ -1,8 +1,9 @@
-// Findings: the record, fifteen of them by value with a count, and the two loops between those and a lent list.
+// Findings: the record, when two are the same, fifteen of them by value with a count, and the two loops between those and a lent list.
 // No other function walks a list of records, so the proofs done by hand stand here alone.
 ghost use mathlib.Core.Path.{_≡_};
 ghost use lib.ListN.{length, take};
 ghost use Rattle.reading.specs.Lent.{laid};
+ghost use Rattle.findings.specs.Same.{severityNumber, sameNumbers, sameFinding};
 ghost use Rattle.findings.specs.Hold.{blankFinding, blankItems};
 ghost use Rattle.findings.specs.Lent.{placesOf, loadCount, loadedOf};
 
@@ -15,6 +16,19 @@ pub enum Severity {
     Info,
 }
 
+impl Severity {
+    // 0 error, 1 warning, 2 info.
+    pub fn number(self) -> u8
+        ensures { λ r. ⌜ r ≡ severityNumber self ⌝ }
+    {
+        match self {
+            Severity::Error => 0,
+            Severity::Warning => 1,
+            Severity::Info => 2,
+        }
+    }
+}
+
 pub struct Finding {
     pub code: u8,
     pub severity: Severity,
@@ -22,6 +36,38 @@ pub struct Finding {
     pub first: u32,
     pub second: u32,
     pub third: u32,
+}
+
+impl Finding {
+    // Whether two findings are the same in every part.
+    pub fn same(self, other: Finding) -> bool
+        ensures { λ r. ⌜ r ≡ sameFinding self other ⌝ }
+    {
+        let severity = self.severity;
+        let wanted = other.severity;
+        if self.code != other.code {
+            return false;
+        }
+        if severity.number() != wanted.number() {
+            return false;
+        }
+        if self.sub != other.sub {
+            return false;
+        }
+        self.same_numbers(other)
+    }
+
+    fn same_numbers(self, other: Finding) -> bool
+        ensures { λ r. ⌜ r ≡ sameNumbers self other ⌝ }
+    {
+        if self.first != other.first {
+            return false;
+        }
+        if self.second != other.second {
+            return false;
+        }
+        self.third == other.third
+    }
 }
 
 // What one rule answers.

@@ -16,9 +16,11 @@ use decoders::timing::Picoseconds;
 use findings::Finding;
 use findings::Findings;
 use findings::Severity;
-use libc::STDOUT_FILENO;
 use pieces::Pieces;
-use reading::Refusal;
+use printing::number;
+use printing::refused;
+use printing::text;
+use printing::yes;
 use report::ReadAnswer;
 use report::WriteAnswer;
 use rules::LintAnswer;
@@ -80,36 +82,6 @@ fn write_from(flags: u8, list: [Finding; 17], len: usize, out: &mut [u8]) -> Wri
     report::write(flags, &list[..len], out)
 }
 
-fn text(s: &[u8]) {
-    io::write_all(STDOUT_FILENO, s);
-}
-
-fn number(n: usize) {
-    text(b" ");
-    io::print_decimal(STDOUT_FILENO, n as u64);
-}
-
-fn yes(so: bool) {
-    if so {
-        text(b" yes");
-    } else {
-        text(b" no");
-    }
-}
-
-fn refused(why: Refusal) {
-    text(b" refused");
-    number(why.number() as usize);
-}
-
-fn rank(s: Severity) -> u8 {
-    match s {
-        Severity::Error => 1,
-        Severity::Warning => 2,
-        Severity::Info => 3,
-    }
-}
-
 // What stands in every place before a call. No rule has its code.
 fn mark() -> Finding {
     Finding {
@@ -127,37 +99,12 @@ fn marked() -> [Finding; 17] {
     [one; 17]
 }
 
-fn same_numbers(a: Finding, b: Finding) -> bool {
-    if a.first != b.first {
-        return false;
-    }
-    if a.second != b.second {
-        return false;
-    }
-    a.third == b.third
-}
-
-fn same_finding(a: Finding, b: Finding) -> bool {
-    if a.code != b.code {
-        return false;
-    }
-    if a.sub != b.sub {
-        return false;
-    }
-    let left = a.severity;
-    let right = b.severity;
-    if rank(left) == rank(right) {
-        return same_numbers(a, b);
-    }
-    false
-}
-
 // How many of the places from `from` on still hold the mark.
 fn stayed(list: [Finding; 17], from: usize) -> usize {
     let mut kept: usize = 0;
     let mut i = from;
     while i < 17 {
-        if same_finding(list[i], mark()) {
+        if list[i].same(mark()) {
             if kept < 17 {
                 kept += 1;
             }
@@ -173,7 +120,7 @@ fn holds(list: [Finding; 17], found: Findings) -> bool {
     let mut i: usize = 0;
     while i < 15 {
         if i < found.count {
-            if same_finding(list[i], items[i]) {} else {
+            if list[i].same(items[i]) {} else {
                 return false;
             }
         }
@@ -182,7 +129,7 @@ fn holds(list: [Finding; 17], found: Findings) -> bool {
     true
 }
 
-// A line for each of the first places: code, severity (1 error, 2 warning, 3 info), sub, numbers.
+// A line for each of the first places: code, severity (0 error, 1 warning, 2 info), sub, numbers.
 fn show(list: [Finding; 17], count: usize) {
     let mut i: usize = 0;
     while i < 17 {
@@ -191,7 +138,7 @@ fn show(list: [Finding; 17], count: usize) {
             let severity = f.severity;
             text(b" ");
             number(f.code as usize);
-            number(rank(severity) as usize);
+            number(severity.number() as usize);
             number(f.sub as usize);
             number(f.first as usize);
             number(f.second as usize);
@@ -325,7 +272,7 @@ fn same_places(a: [Finding; 17], b: [Finding; 17], n: usize) -> bool {
     let mut i: usize = 0;
     while i < 17 {
         if i < n {
-            if same_finding(a[i], b[i]) {} else {
+            if a[i].same(b[i]) {} else {
                 return false;
             }
         }

@@ -1,7 +1,7 @@
 -- The laws of `pick`. Assumes nothing.
-use mathlib.Core.Path.{_≡_, refl}
-use mathlib.Core.Bool.{Bool, true, false}
-use Rattle.reading.specs.Pick.{pick}
+use mathlib.Core.Path.{_≡_, refl, sym}
+use mathlib.Core.Bool.{Bool, true, false, true≢false}
+use Rattle.reading.specs.Pick.{pick, and}
 
 pub if-so : {A : Type 0} (t : Bool) (a b : A) → t ≡ true → pick t a b ≡ a
 if-so t a b e = rw e
@@ -23,3 +23,8 @@ either P false p q = q
 pub by-test {ℓ} : {P : Type ℓ} (t : Bool) → (t ≡ true → P) → (t ≡ false → P) → P
 by-test true f g = f refl
 by-test false f g = g refl
+
+-- where two tests hold together, each holds
+pub both : (a b : Bool) → and a b ≡ true → (a ≡ true) × (b ≡ true)
+both true b e = (refl, e)
+both false b e = absurd (true≢false (sym e))

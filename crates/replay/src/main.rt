@@ -43,7 +43,8 @@ use findings::Finding;
 use findings::Findings;
 use findings::Severity;
 use libc::STDIN_FILENO;
-use libc::STDOUT_FILENO;
+use printing::decimal;
+use printing::text;
 use reading::Refusal;
 use rules::RatedTimings;
 
@@ -83,14 +84,6 @@ struct State {
     differences: usize,
     listed: usize,
     malformed: bool,
-}
-
-fn text(s: &[u8]) {
-    io::write_all(STDOUT_FILENO, s);
-}
-
-fn decimal(n: usize) {
-    io::print_decimal(STDOUT_FILENO, n as u64);
 }
 
 fn wide(x: u8) -> usize

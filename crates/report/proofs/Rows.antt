@@ -8,7 +8,8 @@ use borrow.Author.Tests.{le-leb}
 use lib.Dec.{leb, leb·zero, leb·suc-zero, leb·suc-suc, eqb·suc-zero}
 use Rattle.reading.specs.Pick.{and}
 use Rattle.findings.specs.declared.Finding.{Finding}
-use Rattle.rules.specs.Table.{Row, none, oneTo, most, any, same, inRow}
+use Rattle.findings.specs.Same.{sameSeverity}
+use Rattle.rules.specs.Table.{Row, none, oneTo, most, any, inRow}
 use Rattle.report.specs.Table.{Limited, inLimits}
 use Rattle.report.specs.declared.Limits.{Limits}
 
@@ -46,5 +47,5 @@ pub limited : {r : Row} {l : Limits} → l .0 ≡ r .severity → Sub (r .sub) (
 limited severity sub first second third = record { severity = severity; sub = sub; first = first; second = second; third = third }
 
 pub in-row : (r : Row) (l : Limits) (f : Finding) → Limited r l → f .first < 2 ^ 32 → f .second < 2 ^ 32 → f .third < 2 ^ 32
-    → {t : Bool} → same (l .0) (f .severity) ≡ t → and t (inLimits l f) ≡ inRow r f
+    → {t : Bool} → sameSeverity (l .0) (f .severity) ≡ t → and t (inLimits l f) ≡ inRow r f
 in-row r l f h a b c e = rw (← e, h .severity, h .sub (f .sub), h .first (f .first) a, h .second (f .second) b, h .third (f .third) c)

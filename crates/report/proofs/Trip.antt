@@ -13,10 +13,13 @@ use lib.Seq.{getD-drop, drop-drop}
 use Rattle.reading.specs.Bytes.{AllBytes}
 use Rattle.reading.specs.Pick.{pick, and}
 use Rattle.reading.specs.Said.{Said, gives, refuses, Told}
+use Rattle.reading.proofs.Picked.{both}
 use Rattle.findings.specs.declared.Severity.{Severity}
 use Rattle.findings.specs.declared.Severity.the-variants.{Error, Warning, Info}
 use Rattle.findings.specs.declared.Finding.{Finding}
-use Rattle.rules.specs.Table.{same, inTable, allIn}
+use Rattle.findings.specs.Same.{sameSeverity}
+use Rattle.findings.proofs.Same.{same-severity-is}
+use Rattle.rules.specs.Table.{inTable, allIn}
 use Rattle.report.specs.Form.{findingSize, headSize, formVersion, findingBytes, bodyOf, headOf, reportOf, restOf, severityFor, findingIn, findingsIn}
 use Rattle.report.specs.Read.{Content, lengthIn, contentIn, contentOf}
 use Rattle.report.specs.Write.{writeOf, writtenOver}
@@ -30,28 +33,13 @@ pub record Reportable (flags : ℕ) (l : List Finding) : Type 0 where
   pub few : length l ≤ 15
   pub listed : allIn l ≡ true
 
-both : (a b : Bool) → and a b ≡ true → (a ≡ true) × (b ≡ true)
-both true b e = (refl, e)
-both false b e = absurd (true≢false (sym e))
-
 -- ---- what was written reads back
 number-back : (n : ℕ) → n / 16777216 * 16777216 + n / 65536 % 256 * 65536 + n / 256 % 256 * 256 + n % 256 ≡ n
 number-back n = omega arith
 
-same-is : (a b : Severity) → same a b ≡ true → a ≡ b
-same-is Error Error e = refl
-same-is Error Warning e = cc
-same-is Error Info e = cc
-same-is Warning Error e = cc
-same-is Warning Warning e = refl
-same-is Warning Info e = cc
-same-is Info Error e = cc
-same-is Info Warning e = cc
-same-is Info Info e = refl
-
 severity-back : (f : Finding) → inTable f ≡ true → severityFor (f .code) ≡ f .severity
 unfolding inTable
-severity-back f e = same-is (severityFor (f .code)) (f .severity) (both (same (severityFor (f .code)) (f .severity)) _ e .0)
+severity-back f e = same-severity-is (severityFor (f .code)) (f .severity) (both (sameSeverity (severityFor (f .code)) (f .severity)) _ e .0)
 
 finding-back : (f : Finding) (r : List ℕ) → inTable f ≡ true → findingIn (findingBytes f ++ r) ≡ f
 finding-back f r e = rw (severity-back f e, number-back (f .first), number-back (f .second), number-back (f .third))

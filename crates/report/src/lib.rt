@@ -5,7 +5,7 @@ ghost use Prim.Native.Nat.{_+_, _*_, _<_, _≤_};
 ghost use mathlib.Core.List.{[], _∷_, _++_};
 ghost use lib.ListN.{length, drop, take};
 ghost use Rattle.reading.specs.Lent.{laid};
-ghost use Rattle.rules.specs.Table.{rowOf, inTable, allIn, same};
+ghost use Rattle.rules.specs.Table.{rowOf, inTable, allIn};
 ghost use Rattle.rules.specs.Gathering.{firstFindings};
 ghost use Rattle.report.specs.Table.{Limited, inLimits};
 ghost use Rattle.report.specs.Form.{findingSize, headSize, bigEndian, reportOf, restOf, numberIn, findingIn, findingsIn};
@@ -340,7 +340,7 @@ pub fn in_table(f: Finding) -> bool
     let row = limits_of(f.code);
     let wanted = row.0;
     let severity = f.severity;
-    if same_severity(wanted, severity) {
+    if wanted.number() == severity.number() {
         return in_limits(row, f);
     }
     false
@@ -365,28 +365,6 @@ fn in_limits(row: Limits, f: Finding) -> bool
         return false;
     }
     f.third <= third
-}
-
-fn same_severity(a: Severity, b: Severity) -> bool
-    ensures { λ r. ⌜ r ≡ same a b ⌝ }
-{
-    match a {
-        Severity::Error => match b {
-            Severity::Error => true,
-            Severity::Warning => false,
-            Severity::Info => false,
-        },
-        Severity::Warning => match b {
-            Severity::Error => false,
-            Severity::Warning => true,
-            Severity::Info => false,
-        },
-        Severity::Info => match b {
-            Severity::Error => false,
-            Severity::Warning => false,
-            Severity::Info => true,
-        },
-    }
 }
 
 // Whether all of them are.

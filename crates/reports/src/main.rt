@@ -7,7 +7,10 @@ use findings::Finding;
 use findings::Findings;
 use findings::Found;
 use findings::Severity;
-use libc::STDOUT_FILENO;
+use printing::number;
+use printing::refused;
+use printing::text;
+use printing::yes;
 use reading::Refusal;
 use report::ReadAnswer;
 use report::WriteAnswer;
@@ -16,30 +19,8 @@ use rules::LintAnswer;
 // The largest number of 64 bits.
 const LAST: usize = 18446744073709551615;
 
-fn text(s: &[u8]) {
-    io::write_all(STDOUT_FILENO, s);
-}
-
-fn number(n: usize) {
-    text(b" ");
-    io::print_decimal(STDOUT_FILENO, n as u64);
-}
-
 fn wide(x: u8) -> usize {
     x as usize
-}
-
-fn yes(so: bool) {
-    if so {
-        text(b" yes");
-    } else {
-        text(b" no");
-    }
-}
-
-fn refused(why: Refusal) {
-    text(b" refused");
-    number(why.number() as usize);
 }
 
 fn wrote(answer: WriteAnswer) {
@@ -64,53 +45,6 @@ fn told(answer: ReadAnswer) {
     }
 }
 
-fn rank(s: Severity) -> u8 {
-    match s {
-        Severity::Error => 1,
-        Severity::Warning => 2,
-        Severity::Info => 3,
-    }
-}
-
-fn same_bytes(a: &[u8], b: &[u8]) -> bool {
-    if a.len() != b.len() {
-        return false;
-    }
-    let mut i: usize = 0;
-    while i < a.len() {
-        if a[i] != b[i] {
-            return false;
-        }
-        i += 1;
-    }
-    true
-}
-
-fn same_numbers(a: Finding, b: Finding) -> bool {
-    if a.first != b.first {
-        return false;
-    }
-    if a.second != b.second {
-        return false;
-    }
-    a.third == b.third
-}
-
-fn same_finding(a: Finding, b: Finding) -> bool {
-    if a.code != b.code {
-        return false;
-    }
-    if a.sub != b.sub {
-        return false;
-    }
-    let left = a.severity;
-    let right = b.severity;
-    if rank(left) == rank(right) {
-        return same_numbers(a, b);
-    }
-    false
-}
-
 fn same_findings(a: Findings, b: Findings) -> bool {
     if a.count != b.count {
         return false;
@@ -119,7 +53,7 @@ fn same_findings(a: Findings, b: Findings) -> bool {
     let right = b.items;
     let mut i: usize = 0;
     while i < 15 {
-        if same_finding(left[i], right[i]) {
+        if left[i].same(right[i]) {
             i += 1;
         } else {
             return false;
@@ -169,7 +103,7 @@ fn image_report(image: &[u8]) {
     text(b"\nlint_image, write_findings:");
     wrote(report::write_findings(report::flags_of(identity, timings), found, &mut twice));
     text(b", the same bytes");
-    yes(same_bytes(&once, &twice));
+    yes(check::same(&once, &twice));
     text(b"\nread_findings:");
     let reading = report::read_findings(&once);
     let answer = reading.answer;
@@ -189,7 +123,7 @@ fn image_short(image: &[u8]) {
     let written = reported.written;
     wrote(written);
     text(b", unchanged");
-    yes(same_bytes(&out, &before));
+    yes(check::same(&out, &before));
     text(b"\n");
 }
 
@@ -197,10 +131,7 @@ fn identity_told(answer: IdentityAnswer) {
     text(b" identity");
     match answer {
         IdentityAnswer::Decoded(_) => text(b" decoded"),
-        IdentityAnswer::Refused(why) => {
-            refused(why);
-            number(why.first());
-        }
+        IdentityAnswer::Refused(why) => refused(why),
     }
 }
 
@@ -266,7 +197,7 @@ fn write_case(label: &[u8], flags: u8, found: Findings) {
     text(label);
     wrote(report::write_findings(flags, found, &mut out));
     text(b", unchanged");
-    yes(same_bytes(&out, &before));
+    yes(check::same(&out, &before));
     text(b"\n");
 }
 
@@ -277,7 +208,7 @@ fn short_case(label: &[u8], flags: u8, found: Findings) {
     text(label);
     wrote(report::write_findings(flags, found, &mut out));
     text(b", unchanged");
-    yes(same_bytes(&out, &before));
+    yes(check::same(&out, &before));
     text(b"\n");
 }
 
@@ -403,7 +334,7 @@ fn coherent(label: &[u8], kind: PackageType, dies: u8) {
         Found::One(f) => {
             let severity = f.severity;
             number(f.code as usize);
-            number(rank(severity) as usize);
+            number(severity.number() as usize);
             number(f.sub as usize);
             number(f.first as usize);
         }

@@ -15,7 +15,7 @@ use Rattle.findings.specs.declared.Finding.{Finding}
 use Rattle.findings.specs.declared.Findings.{Findings}
 use Rattle.findings.specs.Hold.{blankFinding, holding}
 use Rattle.findings.proofs.Laws.{list-held}
-use Rattle.rules.specs.Lanes.{severityNumber}
+use Rattle.findings.specs.Same.{severityNumber}
 use Rattle.report.specs.Read.{Content, contentOf, Counted, counted, contained, Read, readSaid, readingSaid, readingOf}
 use Rattle.report.specs.declared.Reading.{Reading}
 use Rattle.report.specs.declared.ReadAnswer.the-variants as read

@@ -13,7 +13,7 @@ use Rattle.decoders.specs.Identity.{identityOf}
 use Rattle.decoders.specs.Timing.{timingsOf, rateOf}
 use Rattle.decoders.specs.Clocks.{clockTableOf}
 use Rattle.findings.specs.declared.Finding.{Finding}
-use Rattle.rules.specs.Lanes.{severityNumber}
+use Rattle.findings.specs.Same.{severityNumber}
 use Rattle.report.specs.Read.{Content, contentOf}
 use Rattle.decoders.specs.declared.identity.IdentityAndBase.{IdentityAndBase}
 use Rattle.decoders.specs.declared.timing.Timings.{Timings}

@@ -8,7 +8,6 @@ ghost use Rattle.reading.specs.Pick.{pick};
 ghost use Rattle.reading.specs.Said.{told};
 ghost use Rattle.reading.specs.Lent.{laid};
 ghost use Rattle.decoders.specs.Identity.{wholeOf};
-ghost use Rattle.rules.specs.Lanes.{severityNumber};
 ghost use Rattle.report.specs.Write.{lintReportOf, lintReportAfter};
 ghost use Rattle.roostcord.specs.Word.{refusalWord, wordOf, libraryVersion};
 ghost use Rattle.roostcord.specs.Numbers.{identityNumbers, timingNumbers, clockNumbers, reportNumbers, identityList, timingsList, casNumbers, clocksList, reportList, listedIn, listAfter};
@@ -26,7 +25,6 @@ use decoders::timing::CasListAnswer;
 use decoders::timing::TimingReach;
 use decoders::timing::Timings;
 use findings::Findings;
-use findings::Severity;
 use pieces::FeedAnswer;
 use pieces::KEPT;
 use reading::Refusal;
@@ -445,22 +443,12 @@ fn put_report(flags: u8, found: Findings, out: &mut [u32])
         let severity = f.severity;
         let k = 1 + 6 * i;
         out[k] = f.code as u32;
-        out[k + 1] = severity_number(severity);
+        out[k + 1] = severity.number() as u32;
         out[k + 2] = f.sub as u32;
         out[k + 3] = f.first;
         out[k + 4] = f.second;
         out[k + 5] = f.third;
         i += 1;
-    }
-}
-
-fn severity_number(severity: Severity) -> u32
-    ensures { λ r. ⌜ r ≡ severityNumber severity ⌝ }
-{
-    match severity {
-        Severity::Error => 0,
-        Severity::Warning => 1,
-        Severity::Info => 2,
     }
 }
 

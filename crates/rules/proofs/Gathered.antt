@@ -19,7 +19,8 @@ use Rattle.findings.specs.declared.Found.{Found}
 use Rattle.findings.specs.declared.Found.the-variants.{Nothing, One}
 use Rattle.findings.specs.Hold.{blankFinding, holding, toList, cat}
 use Rattle.findings.proofs.Laws.{kept-few}
-use Rattle.rules.specs.Lanes.{severityNumber, Three, smallOf, numbersOf, flat}
+use Rattle.findings.specs.Same.{severityNumber}
+use Rattle.rules.specs.Lanes.{Three, smallOf, numbersOf, flat}
 use Rattle.rules.specs.Gathering.{Lanes, lanes, severityOf, joined, stored, threeAt, noted, noteAll, findingAt, firstFindings, recordsOf}
 
 -- ---- three numbers in a row of a flat list

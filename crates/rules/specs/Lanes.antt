@@ -6,15 +6,9 @@ use lib.ListN.{length}
 use Rattle.reading.specs.Pick.{pick}
 use Rattle.reading.specs.Lent.{laid}
 use Rattle.reading.specs.Said.{Said, gives, refused}
-use Rattle.findings.specs.declared.Severity.{Severity}
-use Rattle.findings.specs.declared.Severity.the-variants.{Error, Warning, Info}
 use Rattle.findings.specs.declared.Finding.{Finding}
+use Rattle.findings.specs.Same.{severityNumber}
 use Rattle.rules.specs.Lint.{Listing, listingOf, findingsOf}
-
-abbrev pub severityNumber : Severity → ℕ
-severityNumber Error = 0
-severityNumber Warning = 1
-severityNumber Info = 2
 
 -- a finding is three small numbers, which go into the one array, and three large ones, which go into the other
 pub record Three : Type 0 where

@@ -8,6 +8,7 @@ use Rattle.reading.specs.Pick.{pick, and}
 use Rattle.findings.specs.declared.Severity.{Severity}
 use Rattle.findings.specs.declared.Severity.the-variants.{Error, Warning, Info}
 use Rattle.findings.specs.declared.Finding.{Finding}
+use Rattle.findings.specs.Same.{sameSeverity}
 use Rattle.decoders.specs.declared.identity.PackageType.{PackageType}
 use Rattle.decoders.specs.Codes.{packageCode}
 use Rattle.rules.specs.declared.TimingOrder.{TimingOrder}
@@ -96,15 +97,10 @@ rowOf code =
     (pick (eqb code 9) (row Error (oneTo 3) (most 255) none none)
     (row Info (λ n. false) none none none)))))))))
 
-abbrev pub same : Severity → Severity → Bool
-same Error s = elim s [ Error ↦ true | Warning ↦ false | Info ↦ false ]
-same Warning s = elim s [ Error ↦ false | Warning ↦ true | Info ↦ false ]
-same Info s = elim s [ Error ↦ false | Warning ↦ false | Info ↦ true ]
-
 -- every part of the finding is the row's
 abbrev pub inRow : Row → Finding → Bool
 inRow r f =
-    and (same (r .severity) (f .severity))
+    and (sameSeverity (r .severity) (f .severity))
     (and (r .sub (f .sub))
     (and (r .first (f .first))
     (and (r .second (f .second))

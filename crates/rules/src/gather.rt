@@ -2,7 +2,6 @@
 ghost use mathlib.Core.Path.{_≡_};
 ghost use Prim.Native.Nat.{_+_, _<_, _≤_};
 ghost use lib.ListN.{length};
-ghost use Rattle.rules.specs.Lanes.{severityNumber};
 ghost use Rattle.rules.specs.Gathering.{lanes, severityOf, noted, findingAt, recordsOf};
 use findings::Finding;
 use findings::Findings;
@@ -21,7 +20,7 @@ pub(crate) fn note(heads: &mut [u8], numbers: &mut [u32], n: usize, found: Found
             if n < 15 {
                 let severity = f.severity;
                 heads[3 * n] = f.code;
-                heads[3 * n + 1] = severity_number(severity);
+                heads[3 * n + 1] = severity.number();
                 heads[3 * n + 2] = f.sub;
                 numbers[3 * n] = f.first;
                 numbers[3 * n + 1] = f.second;
@@ -30,16 +29,6 @@ pub(crate) fn note(heads: &mut [u8], numbers: &mut [u32], n: usize, found: Found
             }
             n
         }
-    }
-}
-
-fn severity_number(severity: Severity) -> u8
-    ensures { λ r. ⌜ r ≡ severityNumber severity ⌝ }
-{
-    match severity {
-        Severity::Error => 0,
-        Severity::Warning => 1,
-        Severity::Info => 2,
     }
 }
 

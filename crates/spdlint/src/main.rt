@@ -6,31 +6,15 @@ use findings::Finding;
 use findings::Findings;
 use findings::Severity;
 use libc::STDIN_FILENO;
-use libc::STDOUT_FILENO;
 use pieces::LONGEST;
+use printing::number;
+use printing::refused;
+use printing::text;
 use reading::Refusal;
 
-fn text(s: &[u8]) {
-    io::write_all(STDOUT_FILENO, s);
-}
-
-// A space and a number in decimal.
-fn number(n: u64) {
-    text(b" ");
-    io::print_decimal(STDOUT_FILENO, n);
-}
-
 // How a decoder's line ends.
-fn refused(why: Refusal) {
-    text(b" refused");
-    number(why.number() as u64);
-    let carried = why.carries();
-    if 0 < carried {
-        number(why.first() as u64);
-    }
-    if 1 < carried {
-        number(why.second() as u64);
-    }
+fn refused_line(why: Refusal) {
+    refused(why);
     text(b"\n");
 }
 
@@ -73,15 +57,15 @@ fn line(f: Finding) {
     name(f.code);
     severity(rank);
     if f.sub != 0 {
-        number(f.sub as u64);
+        number(f.sub as usize);
     }
     let n = listed(f.code);
-    number(f.first as u64);
+    number(f.first as usize);
     if 1 < n {
-        number(f.second as u64);
+        number(f.second as usize);
     }
     if 2 < n {
-        number(f.third as u64);
+        number(f.third as usize);
     }
     text(b"\n");
 }
@@ -106,22 +90,22 @@ fn main() {
     }
     let linted = rules::lint_image(&buffer[..got]);
     text(b"bytes");
-    number(got as u64);
+    number(got);
     text(b"\nidentity");
     let identity = linted.identity;
     match identity {
         IdentityAnswer::Decoded(_) => text(b" ok\n"),
-        IdentityAnswer::Refused(why) => refused(why),
+        IdentityAnswer::Refused(why) => refused_line(why),
     }
     text(b"timings");
     let timings = linted.timings;
     match timings {
         TimingsAnswer::Decoded(_) => text(b" ok\n"),
-        TimingsAnswer::Refused(why) => refused(why),
+        TimingsAnswer::Refused(why) => refused_line(why),
     }
     let found = linted.findings;
     lines(found);
     text(b"findings");
-    number(found.count as u64);
+    number(found.count);
     text(b"\n");
 }

@@ -39,6 +39,7 @@ put-report-spec =
     (λ c. omega arith)
     (λ c. omega arith)
     (λ c κs. search needs)
+    (λ c. omega (arith, c .number))
     (λ c. omega arith)
     (λ c. omega arith)
     (λ c. simp length-set (omega arith))
@@ -64,7 +65,7 @@ put-report-spec =
       omega arith,
       simp length-set (omega arith),
       simp length-set (simp length-set at (l .loop .inv .2)),
-      next-listed (s .args .flags) (f .count) (f .items) (full s) (set (s .args .out .now) 0 (s .args .flags)) (l .loop .i) (c .before .before .before .before .loop-test .taken) (simp length-set (omega arith)) (c .before .severity-number .ensures) (l .loop .inv .3),
+      next-listed (s .args .flags) (f .count) (f .items) (full s) (set (s .args .out .now) 0 (s .args .flags)) (l .loop .i) (c .before .before .before .before .loop-test .taken) (simp length-set (omega arith)) (c .before .number .ensures) (l .loop .inv .3),
     ))
     (λ c. simp length-set at (c .before .loop .inv .2))
     (λ c.

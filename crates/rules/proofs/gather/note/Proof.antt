@@ -35,6 +35,6 @@ note-spec =
     (λ c. search needs)
     (λ c. search needs)
     (λ c. search needs)
-    (λ c. simp (c .before .before .before .found .given .1, lt-ltb _ _ (c .before .if1 .taken), c .severity-number .ensures))
+    (λ c. simp (c .before .before .before .found .given .1, lt-ltb _ _ (c .before .if1 .taken), c .number .ensures))
     (λ c. simp (c .enum-told .given .1))
     (λ c. simp (c .before .before .found .given .1, le-ltb _ _ (c .if1 .left))))
