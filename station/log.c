@@ -10,6 +10,8 @@ enum {
   HEXDUMP_COLUMN = 8
 };
 
+static const char other_text[] = "its text is not that of its bytes: log with xxd without -e and -b, or with hexdump -Cv";
+
 static int digit(char c) {
   if (c >= '0' && c <= '9') return c - '0';
   if (c >= 'a' && c <= 'f') return c - 'a' + 10;
@@ -50,6 +52,26 @@ static const char *take_byte(const char *at, struct log *log, size_t *len) {
   return at + 2;
 }
 
+/* A byte as the text of either form shows it. */
+static char shown(uint8_t byte) { return byte >= ' ' && byte <= '~' ? (char)byte : '.'; }
+
+/* Whether the text of a line is that of its bytes: where it is not, the digits are in another order or of another kind. */
+static bool shows(const char *text, size_t text_len, const struct log *log, size_t len) {
+  bool same = text_len == len;
+  for (size_t i = 0; same && i < len; i++) same = text[i] == shown(log->bytes[i]);
+  return same;
+}
+
+/* The text behind xxd's bytes, if there is any. Blanks at its end went with those of the line; at its front they are as those before it. */
+static void xxd_text(const char *at, struct log *log, size_t len) {
+  size_t rest = strlen(at);
+  while (len > 0 && shown(log->bytes[len - 1]) == ' ') len--;
+  if (rest == 0) return;
+  size_t text_len = rest < len ? rest : len;
+  const char *text = at + rest - text_len;
+  if (strspn(at, " ") + text_len < rest || !shows(text, text_len, log, len)) log->fault = other_text;
+}
+
 /* The bytes behind xxd's colon. */
 static size_t xxd_bytes(const char *at, struct log *log) {
   size_t len = 0;
@@ -58,6 +80,7 @@ static size_t xxd_bytes(const char *at, struct log *log) {
     while (at && *at != ' ' && *at != '\0') at = take_byte(at, log, &len);
   }
   if (len == 0 && !log->fault) log->fault = "no blank and bytes behind the colon";
+  if (!log->fault) xxd_text(at, log, len);
   return len;
 }
 
@@ -73,6 +96,7 @@ static size_t hexdump_bytes(const char *at, struct log *log) {
   const char *bar = at + blanks, *last = log->text + log->len - 1;
   if (*bar != '|' || last == bar || *last != '|') log->fault = "no |text| ends it, so it was cut";
   else if (len == 0) log->fault = "it has no bytes";
+  else if (!shows(bar + 1, (size_t)(last - bar) - 1, log, len)) log->fault = other_text;
   return len;
 }
 

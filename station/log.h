@@ -4,17 +4,20 @@
  *
  *   xxd           00000010: 0000 0000 a001 f203  ........
  *                 The offset, a colon, a blank, and groups of bytes with one blank between two groups. Two blanks, or the end of the
- *                 line, end the bytes. What stands behind the two blanks is text, and is not looked at.
+ *                 line, end the bytes. What stands behind the blanks is the text.
  *   hexdump -Cv   00000010  00 00 00 00 a0 01 f2 03  72 0d 00 00 00 00 00 41  |........r......A|
  *                 The offset, two blanks, and up to 16 bytes with one blank between two of them, but two behind the eighth; then blanks,
- *                 and text between two bars that ends the line. The text is not looked at; without its bars the line was cut, and is refused.
+ *                 and text between two bars that ends the line. Without its bars the line was cut, and is refused.
  *   00000200      An offset alone, as hexdump -C has it on its last line, is the end of the image at that offset. Only lines that are
  *                 skipped may follow it.
  *
  * A byte is two hex digits, of either case. Blank lines and lines that begin with # are skipped. Blanks and a carriage return at the
  * end of a line do not count. A line with * alone stands for lines that were left out: they are not guessed at, the line is refused.
- * So is every line of another form: xxd -p, hexdump without -C, od. (The little-endian groups of xxd -e and the bits of xxd -b cannot
- * be told from bytes: they are not to be used.)
+ * So is every line of another form: xxd -p, hexdump without -C, od.
+ *
+ * The text has a place for each byte: the byte itself where it is printable ASCII, else a dot. A line with another text is refused: so are
+ * the bits of xxd -b, always, and the little-endian words of xxd -e, unless no byte of them is printable or each stands where its mirror
+ * image does. A line of xxd's form without text is taken as it is.
  *
  * Each line is handed on with its own offset, in the order of the log. The image ends where the furthest line does.
  */
