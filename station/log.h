@@ -16,8 +16,8 @@
  * So is every line of another form: xxd -p, hexdump without -C, od.
  *
  * The text has a place for each byte: the byte itself where it is printable ASCII, else a dot. A line with another text is refused: so are
- * the bits of xxd -b, and the little-endian words of xxd -e unless no byte of them is printable or each that is has its like at the other
- * end of its word. A line of xxd's form without text, or with blanks alone for text, is taken as it is.
+ * the bits of xxd -b, and the little-endian words of xxd -e unless their text reads the same from either end of each word, as it does
+ * where no byte is printable. Blanks at the ends of xxd's text are not seen. A line of its form without text is taken as it is.
  *
  * Each line is handed on with its own offset, in the order of the log. The image ends where the furthest line does.
  */
