@@ -3,5 +3,7 @@ pub mod Listing
 pub mod Least
 pub mod Once
 pub mod Reach
+pub mod Refused
+pub mod Named
 pub mod Parts
 pub mod Read

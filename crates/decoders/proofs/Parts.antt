@@ -3,10 +3,11 @@ use Prim.Native.Nat.{ℕ}
 use mathlib.Core.Path.{_≡_, refl}
 use mathlib.Core.List.{List}
 use Rattle.reading.specs.View.{view}
-use Rattle.reading.proofs.Picked.{by-test}
+use Rattle.reading.proofs.Reach.{by-missing}
+use Rattle.reading.specs.Ranges.{missingAt}
 use Rattle.reading.specs.Said.{Said, gives, refuses, onward}
 use Rattle.decoders.specs.Codes.{sizeOf, deviceOf, moduleOf, densityOf, packageOf, ioWidthOf, bankGroupsOf, banksOf, busWidthOf, channelsOf}
-use Rattle.decoders.specs.Identity.{identityBytesOf, baseOf, sdramOf, organizationOf, wholeOf, identityOf}
+use Rattle.decoders.specs.Identity.{identityRanges, identityBytesOf, baseOf, sdramOf, organizationOf, wholeOf, identityOf}
 
 -- a chain of ten is a chain of three, of five and of two
 module _ {A B C D E F G H I J P Q R X : Type 0} (f : A → B → C → P) (g : D → E → F → G → H → Q) (h : I → J → R) (w : P → Q → R → X) where
@@ -36,7 +37,7 @@ pub in-parts : (s : List ℕ) → identityOf s ≡
     onward refuses (organizationOf b) (λ o.
     gives (wholeOf p d o)))))
 unfolding identityOf identityBytesOf baseOf sdramOf organizationOf
-in-parts s = by-test (view s .below 236)
-    (λ e. rw e)
+in-parts s = by-missing (missingAt identityRanges (view s))
     (λ e. rw e
     (chained _ _ _ wholeOf (sizeOf _) (deviceOf _) (moduleOf _) (densityOf _) (packageOf _) (ioWidthOf _) (bankGroupsOf _) (banksOf _) (busWidthOf _) (channelsOf _)))
+    (λ i e. rw e)

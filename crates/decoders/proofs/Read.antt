@@ -5,16 +5,18 @@ use Prim.Native.Nat.{ℕ, suc, _<_}
 use lib.ListN.{length, take, set, getD}
 use lib.Seq.{take-suc, take-suc-set}
 use Rattle.reading.specs.View.{view}
+use Rattle.reading.specs.Ranges.{missingAt, reachOf}
 use Rattle.reading.specs.Said.{Said, gives, refuses, told, onward}
 use Rattle.reading.specs.declared.Refusal.{Refusal}
-use Rattle.reading.proofs.Picked.{by-test}
+use Rattle.reading.proofs.Reach.{by-missing}
 use Rattle.reading.proofs.Clip.{within}
 use Rattle.decoders.specs.Answers.{reachSaid}
-use Rattle.decoders.specs.Timing.{le16At, pairAt, casAt, timesAt, timingReachOf, timingBytesOf, timingsOf}
+use Rattle.decoders.specs.Timing.{timingRanges, timesAt, timingReachOf, timingBytesOf, timingsOf}
 use Rattle.decoders.specs.declared.timing.Timings.{Timings}
 use Rattle.decoders.specs.declared.timing.TimingReach.{TimingReach}
 use Rattle.decoders.specs.declared.timing.TimingReach.the-variants as reach
 use Rattle.decoders.proofs.Fields.{said}
+use Rattle.decoders.proofs.Reach.{times-reach}
 
 -- one byte more of s is copied to b
 pub one-more : (b s : List ℕ) (i : ℕ) → i < length b → i < length s → take i b ≡ take i s → take (suc i) (set b i (getD s i 0)) ≡ take (suc i) s
@@ -22,10 +24,10 @@ one-more b s i h k e = take-suc-set b i (getD s i 0) h ∙ ap (_++ (getD s i 0 �
 
 module _ (s : List ℕ) where
   in-bytes : timingsOf s ≡ onward refuses (timingReachOf s) (λ _. gives (timesAt (view (timingBytesOf s))))
-  unfolding timingsOf timingReachOf timingBytesOf le16At pairAt casAt
-  in-bytes = by-test (view s .below 94)
-      (λ e. rw e)
-      (λ e. rw e (ap gives (sym (within timesAt 94 (λ v. refl) s))))
+  unfolding timingsOf timingReachOf timingBytesOf
+  in-bytes = by-missing (missingAt timingRanges (view s))
+      (λ e. rw e (ap gives (sym (within timesAt (reachOf timingRanges) times-reach s))))
+      (λ i e. rw e)
 
   -- what a caller has of `timing_bytes` and `timings_in`
   module _ {r : TimingReach} (p : reachSaid r ≡ timingReachOf s) where

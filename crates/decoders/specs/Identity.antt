@@ -1,10 +1,10 @@
--- Document 01, "Identity": the length, and then the checks in the table's order. Assumes nothing.
+-- Document 01, "Identity": the bytes that are read, and then the checks in the table's order. Assumes nothing.
 use Prim.Native.Nat.{ℕ, _+_, _/_, _%_}
-use mathlib.Core.List.{List}
+use mathlib.Core.List.{List, [], _∷_}
 use lib.Dec.{eqb}
-use Rattle.reading.specs.Pick.{pick}
 use Rattle.reading.specs.View.{View, view}
-use Rattle.reading.specs.Said.{Told, no, Said, gives, refuses, refused, onward}
+use Rattle.reading.specs.Said.{Told, Said, gives, refuses, onward}
+use Rattle.reading.specs.Ranges.{missingAt, whole}
 use Rattle.decoders.specs.Codes.{sizeOf, revisionOf, deviceOf, moduleOf, densityOf, packageOf, ioWidthOf, bankGroupsOf, banksOf, busWidthOf, channelsOf}
 use Rattle.decoders.specs.declared.identity.IdentityBytes.{IdentityBytes}
 use Rattle.decoders.specs.declared.identity.Base.{Base}
@@ -12,7 +12,10 @@ use Rattle.decoders.specs.declared.identity.Sdram.{Sdram}
 use Rattle.decoders.specs.declared.identity.Organization.{Organization}
 use Rattle.decoders.specs.declared.identity.IdentityAndBase.{IdentityAndBase}
 
--- the bytes that are looked at
+-- document 02, 2026-01: bytes 0 to 7, 234 and 235 are read; each range by its start and its number of bytes
+abbrev pub identityRanges : List (ℕ × ℕ)
+identityRanges = (0, 8) ∷ (234, 2) ∷ []
+
 abbrev pub bytesAt : View → IdentityBytes
 bytesAt v =
     record {
@@ -94,10 +97,10 @@ wholeOf b d o =
       «primary_bus_width_bits» = o .«primary_bus_width_bits»;
     }
 
--- the length, and the parts in their order
+-- refused 1 where one of the bytes is missing, and then the parts in their order
 abbrev pub identityWith : {X : Type 0} → (Told → X) → (IdentityAndBase → X) → View → X
 identityWith stop good v =
-    pick (v .below 236) (stop (no 1 0 0)) (
+    whole stop (missingAt identityRanges v) (
     baseWith stop (λ b.
     sdramWith stop (λ d.
     organizationWith stop (λ o.
@@ -109,9 +112,9 @@ identityAt v = identityWith refuses gives v
 unfoldable pub identityOf : List ℕ → Said IdentityAndBase
 identityOf s = identityAt (view s)
 
--- the length alone, and each part alone
+-- the bytes alone, and each part alone
 unfoldable pub identityBytesOf : List ℕ → Said IdentityBytes
-identityBytesOf s = pick (view s .below 236) (refused 1 0 0) (gives (bytesAt (view s)))
+identityBytesOf s = whole refuses (missingAt identityRanges (view s)) (gives (bytesAt (view s)))
 
 unfoldable pub baseOf : IdentityBytes → Said Base
 baseOf b = baseWith refuses gives b

@@ -1,16 +1,21 @@
 -- Document 01, "Timings" and "Data rate". Assumes nothing.
 use Prim.Native.Nat.{ℕ, _+_, _*_, _/_}
-use mathlib.Core.List.{List}
+use mathlib.Core.List.{List, [], _∷_}
 use lib.Dec.{eqb}
 use lib.ListN.{take, replicate}
 use Rattle.reading.specs.Pick.{pick}
 use Rattle.reading.specs.View.{View, view}
-use Rattle.reading.specs.Said.{Said, gives, refused}
+use Rattle.reading.specs.Said.{Said, gives, refuses}
+use Rattle.reading.specs.Ranges.{missingAt, whole, reachOf}
 use Rattle.decoders.specs.Cas.{casOf}
 use Rattle.decoders.specs.declared.timing.Picoseconds.{Picoseconds}
 use Rattle.decoders.specs.declared.timing.TimingPair.{TimingPair}
 use Rattle.decoders.specs.declared.timing.CasLatencies.{CasLatencies}
 use Rattle.decoders.specs.declared.timing.Timings.{Timings}
+
+-- document 02, 2026-01: bytes 20 to 28, 30 to 47 and 70 to 93 are read; each range by its start and its number of bytes
+abbrev pub timingRanges : List (ℕ × ℕ)
+timingRanges = (20, 9) ∷ (30, 18) ∷ (70, 24) ∷ []
 
 -- a 16-bit value, low byte first
 unfoldable pub le16At : View → ℕ → ℕ
@@ -57,19 +62,19 @@ timesAt v =
       trtp = pairAt v 91;
     }
 
--- refused only when the image is shorter than 94 bytes
+-- refused only where one of the bytes is missing
 abbrev pub timingsAt : View → Said Timings
-timingsAt v = pick (v .below 94) (refused 1 0 0) (gives (timesAt v))
+timingsAt v = whole refuses (missingAt timingRanges v) (gives (timesAt v))
 
 unfoldable pub timingsOf : List ℕ → Said Timings
 timingsOf s = timingsAt (view s)
 
--- whether the image has the bytes that the record is read from, and those bytes
+-- whether the image has the bytes that the record is read from, and the bytes up to the last of them
 unfoldable pub timingReachOf : List ℕ → Said (Unit {0})
-timingReachOf s = pick (view s .below 94) (refused 1 0 0) (gives tt)
+timingReachOf s = whole refuses (missingAt timingRanges (view s)) (gives tt)
 
 unfoldable pub timingBytesOf : List ℕ → List ℕ
-timingBytesOf s = pick (view s .below 94) (replicate 94 0) (take 94 s)
+timingBytesOf s = whole (λ t. replicate (reachOf timingRanges) 0) (missingAt timingRanges (view s)) (take (reachOf timingRanges) s)
 
 -- the data rate of a cycle time, each division rounded down
 abbrev pub rateOf : ℕ → ℕ

@@ -30,8 +30,12 @@ const OFF_MODULE_ORGANIZATION: usize = 234;
 
 const OFF_MEMORY_CHANNEL_BUS_WIDTH: usize = 235;
 
-// Up to the bus width.
-const IDENTITY_BYTES: usize = 236;
+// What is read: where each range starts and how many bytes it has; and how many bytes there are up to the last of them.
+const IDENTITY_STARTS: [u16; 2] = [0, 234];
+
+const IDENTITY_LENGTHS: [u16; 2] = [8, 2];
+
+const IDENTITY_BYTES: usize = IDENTITY_STARTS[1] as usize + IDENTITY_LENGTHS[1] as usize;
 
 // SPD revision, from byte 1: two plain nibbles.
 pub struct SpdRevision {
@@ -406,7 +410,11 @@ pub fn identity_bytes(image: &[u8]) -> IdentityBytesAnswer
     ensures { λ r. ⌜ identityBytesSaid r ≡ identityBytesOf (now (image .entry)) ⌝ }
 {
     if image.len() < IDENTITY_BYTES {
-        return IdentityBytesAnswer::Refused(Refusal::Truncated);
+        return IdentityBytesAnswer::Refused(reading::truncated(
+            image,
+            &IDENTITY_STARTS,
+            &IDENTITY_LENGTHS,
+        ));
     }
     IdentityBytesAnswer::Bytes(IdentityBytes {
         spd_size: reading::byte_or_zero(image, OFF_SPD_SIZE),

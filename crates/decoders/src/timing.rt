@@ -48,8 +48,12 @@ const OFF_TWTR_S: usize = 88;
 
 const OFF_TRTP: usize = 91;
 
-// Up to the clock byte of tRTP.
-const TIMING_BYTES: usize = 94;
+// What is read: where each range starts and how many bytes it has; and how many bytes there are up to the last of them.
+const TIMING_STARTS: [u16; 3] = [20, 30, 70];
+
+const TIMING_LENGTHS: [u16; 3] = [9, 18, 24];
+
+const TIMING_BYTES: usize = TIMING_STARTS[2] as usize + TIMING_LENGTHS[2] as usize;
 
 // A duration in picoseconds: every absolute time is kept so.
 pub struct Picoseconds(pub u32);
@@ -198,7 +202,7 @@ pub enum TimingReach {
 // Those bytes, from the image's first on; zeros where it does not have them.
 pub struct TimingBytes {
     pub reach: TimingReach,
-    pub bytes: [u8; 94],
+    pub bytes: [u8; TIMING_BYTES],
 }
 
 // The base timings of an image. No value is reserved, so a short image is the only refusal.
@@ -220,11 +224,15 @@ pub fn timing_bytes(image: &[u8]) -> TimingBytes
     ensures bytes { λ r. ⌜ r .bytes ≡ timingBytesOf (now (image .entry)) ⌝ }
 {
     if image.len() < TIMING_BYTES {
-        let reach = TimingReach::Refused(Refusal::Truncated);
-        let bytes = [0u8; 94];
+        let reach = TimingReach::Refused(reading::truncated(
+            image,
+            &TIMING_STARTS,
+            &TIMING_LENGTHS,
+        ));
+        let bytes = [0u8; TIMING_BYTES];
         return TimingBytes { reach, bytes };
     }
-    let mut bytes = [0u8; 94];
+    let mut bytes = [0u8; TIMING_BYTES];
     let mut i: usize = 0;
     while i < TIMING_BYTES {
         bytes[i] = image[i];

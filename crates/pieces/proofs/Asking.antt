@@ -10,10 +10,11 @@ use lib.Dec.{leb, ltb}
 use borrow.Author.Tests.{le-leb, lt-ltb, leb-true, ltb-true}
 use Rattle.reading.specs.Pick.{pick}
 use Rattle.reading.specs.View.{View, view, clip, Within}
+use Rattle.reading.specs.Ranges.{reachOf}
 use Rattle.reading.proofs.Picked.{by-test}
 use Rattle.reading.proofs.Clip.{within}
-use Rattle.decoders.specs.Identity.{identityOf}
-use Rattle.decoders.specs.Timing.{timingsOf}
+use Rattle.decoders.specs.Identity.{identityRanges, identityOf}
+use Rattle.decoders.specs.Timing.{timingRanges, timingsOf}
 use Rattle.decoders.proofs.Reach.{identity-reach, timings-reach}
 use Rattle.findings.specs.Hold.{holding}
 use Rattle.rules.specs.Lint.{findingsOf, lintOf}
@@ -62,11 +63,11 @@ module _ (n m : ℕ) (h : n ≤ m) where
 module _ (cs : List Call) where
   pub run-identity : identityOf (keptOf (run cs)) ≡ identityOf (image cs)
   unfolding identityOf
-  run-identity = asked-run (within-more 236 keptBytes (omega arith) identity-reach) cs
+  run-identity = asked-run (within-more (reachOf identityRanges) keptBytes (omega arith) identity-reach) cs
 
   pub run-timings : timingsOf (keptOf (run cs)) ≡ timingsOf (image cs)
   unfolding timingsOf
-  run-timings = asked-run (within-more 94 keptBytes (omega arith) timings-reach) cs
+  run-timings = asked-run (within-more (reachOf timingRanges) keptBytes (omega arith) timings-reach) cs
 
   pub run-findings : findingsOf (keptOf (run cs)) ≡ findingsOf (image cs)
   run-findings = asked-run lint-reach cs

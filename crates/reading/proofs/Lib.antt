@@ -3,4 +3,7 @@ pub mod Once
 pub mod Clip
 pub mod Room
 pub mod Laid
+pub mod Lacking
+pub mod Smallest
+pub mod Reach
 pub mod Made

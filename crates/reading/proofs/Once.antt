@@ -10,7 +10,7 @@ use Rattle.reading.specs.declared.Refusal.the-variants.{Truncated, NotDd
 -- the refusal that a number and its values stand for
 abbrev untold : Told → Refusal
 untold t =
-    pick (eqb (t .number) 1) Truncated
+    pick (eqb (t .number) 1) (Truncated (t .first))
     (pick (eqb (t .number) 2) (NotDdr5 (t .first))
     (pick (eqb (t .number) 3) (UnknownEnum (t .first) (t .second))
     (pick (eqb (t .number) 4) ListTooShort
@@ -24,7 +24,7 @@ untold t =
     NotReportable))))))))))
 
 pub untold-told : (why : Refusal) → untold (told why) ≡ why
-untold-told Truncated = refl
+untold-told (Truncated n) = refl
 untold-told (NotDdr5 b) = refl
 untold-told (UnknownEnum f c) = refl
 untold-told ListTooShort = refl

@@ -14,9 +14,9 @@ pub record Told : Type 0 where
 abbrev pub no : (number first second : ℕ) → Told
 no n a b = record { number = n; first = a; second = b }
 
--- document 01, "Refusal numbers"
+-- document 01, "Refusal numbers"; 1 carries what document 02, 2026-01 adds
 abbrev pub told : Refusal → Told
-told Truncated = no 1 0 0
+told (Truncated offset) = no 1 offset 0
 told (NotDdr5 byte2) = no 2 byte2 0
 told (UnknownEnum field code) = no 3 field code
 told ListTooShort = no 4 0 0
@@ -31,7 +31,7 @@ told NotReportable = no 12 0 0
 
 -- how many values a refusal carries
 abbrev pub carried : Refusal → ℕ
-carried Truncated = 0
+carried (Truncated offset) = 1
 carried (NotDdr5 byte2) = 1
 carried (UnknownEnum field code) = 2
 carried ListTooShort = 0

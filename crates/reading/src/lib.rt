@@ -4,11 +4,12 @@ ghost use mathlib.Core.Path.{_≡_};
 ghost use Rattle.reading.specs.View.{view};
 ghost use Rattle.reading.specs.Said.{told, carried};
 ghost use Rattle.reading.specs.Bytes.{byteAt, insideAt, regionOf};
+ghost use Rattle.reading.specs.Ranges.{rangesOf, firstLacking, smaller, missingAt, truncatedBy};
 
 // Why a call was refused; specs/Said.antt has document 01's number for each case. One enum for all layers.
 pub enum Refusal {
-    // The image ends before the decoder's last byte.
-    Truncated,
+    // The image lacks a byte that the decoder reads; the smallest such offset is carried.
+    Truncated(usize),
     // Byte 2 says another device type; it is carried.
     NotDdr5(u8),
     // A code that its field's table does not have.
@@ -39,7 +40,7 @@ impl Refusal {
         ensures { λ r. ⌜ r ≡ told self .number ⌝ }
     {
         match self {
-            Refusal::Truncated => 1,
+            Refusal::Truncated(_) => 1,
             Refusal::NotDdr5(_) => 2,
             Refusal::UnknownEnum { field: _, value: _ } => 3,
             Refusal::ListTooShort => 4,
@@ -59,7 +60,7 @@ impl Refusal {
         ensures { λ r. ⌜ r ≡ told self .first ⌝ }
     {
         match self {
-            Refusal::Truncated => 0,
+            Refusal::Truncated(offset) => offset,
             Refusal::NotDdr5(byte2) => byte2 as usize,
             Refusal::UnknownEnum { field, value: _ } => field as usize,
             Refusal::ListTooShort => 0,
@@ -79,7 +80,7 @@ impl Refusal {
         ensures { λ r. ⌜ r ≡ told self .second ⌝ }
     {
         match self {
-            Refusal::Truncated => 0,
+            Refusal::Truncated(_) => 0,
             Refusal::NotDdr5(_) => 0,
             Refusal::UnknownEnum { field: _, value } => value as usize,
             Refusal::ListTooShort => 0,
@@ -99,7 +100,7 @@ impl Refusal {
         ensures { λ r. ⌜ r ≡ carried self ⌝ }
     {
         match self {
-            Refusal::Truncated => 0,
+            Refusal::Truncated(_) => 1,
             Refusal::NotDdr5(_) => 1,
             Refusal::UnknownEnum { field: _, value: _ } => 2,
             Refusal::ListTooShort => 0,
@@ -162,4 +163,66 @@ pub fn slice(image: &[u8], offset: usize, len: usize) -> &[u8]
     } else {
         &image[0..0]
     }
+}
+
+// The smallest offset that is read and that the image lacks.
+pub enum Missing {
+    Nothing,
+    At(usize),
+}
+
+// What a decoder reads stands in two tables, where each range starts and how many bytes it has: the smallest offset of them that the
+// image lacks.
+pub fn first_missing(image: &[u8], starts: &[u16], lengths: &[u16]) -> Missing
+    ensures { λ r. ⌜ r ≡ missingAt (rangesOf (now (starts .entry)) (now (lengths .entry))) (view (now (image .entry))) ⌝ }
+{
+    let mut least = Missing::Nothing;
+    let mut i: usize = 0;
+    while i < starts.len() {
+        if lengths.len() <= i {
+            return least;
+        }
+        least = smaller_of(least, first_lacking(image, starts[i], lengths[i]));
+        i += 1;
+    }
+    least
+}
+
+// Refusal 1 of an image that lacks a byte: with the smallest that it lacks, and with 0 where it lacks none.
+pub fn truncated(image: &[u8], starts: &[u16], lengths: &[u16]) -> Refusal
+    ensures { λ r. ⌜ told r ≡ truncatedBy (missingAt (rangesOf (now (starts .entry)) (now (lengths .entry))) (view (now (image .entry)))) ⌝ }
+{
+    match first_missing(image, starts, lengths) {
+        Missing::At(offset) => Refusal::Truncated(offset),
+        Missing::Nothing => Refusal::Truncated(0),
+    }
+}
+
+// The first offset of one range that the image lacks.
+fn first_lacking(image: &[u8], start: u16, len: u16) -> Missing
+    ensures { λ r. ⌜ r ≡ firstLacking (view (now (image .entry))) start len ⌝ }
+{
+    let first = start as usize;
+    let end = first + len as usize;
+    let mut at = image.len();
+    if at < first {
+        at = first;
+    }
+    if at < end {
+        Missing::At(at)
+    } else {
+        Missing::Nothing
+    }
+}
+
+fn smaller_of(a: Missing, b: Missing) -> Missing
+    ensures { λ r. ⌜ r ≡ smaller a b ⌝ }
+{
+    let Missing::At(i) = a else {
+        return b;
+    };
+    let Missing::At(j) = b else {
+        return a;
+    };
+    if i < j { a } else { b }
 }

@@ -1,5 +1,6 @@
 // Runs what is only run of the report form and of the calls by value, and writes what came out: a report written and read back, every refusal
-// of the writer and the reader, the report table, the package rule on pairs that no image has, and regions at the edges of an image.
+// of the writer and the reader, the report table, the package rule on pairs that no image has, regions at the edges of an image, and the first
+// byte that is missing of some ranges.
 use decoders::identity::IdentityAnswer;
 use decoders::identity::PackageType;
 use decoders::timing::TimingsAnswer;
@@ -11,6 +12,7 @@ use printing::number;
 use printing::refused;
 use printing::text;
 use printing::yes;
+use reading::Missing;
 use reading::Refusal;
 use report::ReadAnswer;
 use report::WriteAnswer;
@@ -374,6 +376,37 @@ fn regions(image: &[u8]) {
     part(b"region 2^64-1 2^64-1 of 4:", image, LAST, LAST);
 }
 
+// The first byte of some ranges that an image lacks.
+fn lacks(label: &[u8], image: &[u8], starts: &[u16], lengths: &[u16]) {
+    text(label);
+    match reading::first_missing(image, starts, lengths) {
+        Missing::At(offset) => number(offset),
+        Missing::Nothing => text(b" nothing"),
+    }
+    text(b"\n");
+}
+
+// The order of the ranges does not matter, an empty one has no byte, and a start without a length is no range.
+fn missing(image: &[u8]) {
+    lacks(b"missing of 4, bytes 0-1, 6-7:", image, &[0, 6], &[2, 2]);
+    lacks(b"missing of 4, bytes 6-7, 1-8:", image, &[6, 1], &[2, 8]);
+    lacks(b"missing of 4, bytes 0-3:", image, &[0], &[4]);
+    lacks(b"missing of 4, bytes 0-4:", image, &[0], &[5]);
+    lacks(
+        b"missing of 4, 65535 bytes from 65535:",
+        image,
+        &[65535],
+        &[65535],
+    );
+    lacks(b"missing of 4, no byte from 9:", image, &[9], &[0]);
+    lacks(
+        b"missing of 4, bytes 0-3 and a start alone:",
+        image,
+        &[0, 9],
+        &[4],
+    );
+}
+
 // What the calls over a lent list answer of a list of so many places.
 fn list_of(len: usize, image: &[u8]) {
     text(b"lint into");
@@ -417,4 +450,5 @@ fn main() {
     run(&bytes);
     let four = [1u8, 2, 3, 4];
     regions(&four);
+    missing(&four);
 }

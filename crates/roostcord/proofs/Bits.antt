@@ -1,23 +1,24 @@
 -- Every refusal that a call of the C library gives has its values within their bits, where what is lent are bytes: so no two of them have
--- the same word. A field's number is at most 9, a code and a device type are bytes, a count has twelve bits. Assumes nothing.
-use Prim.Native.Nat.{ℕ, zero, suc, _+_, _/_, _%_, _<_}
+-- the same word. A missing offset is one that is read, a field's number is at most 9, a code and a device type are bytes, a count has twelve
+-- bits. Assumes nothing.
+use Prim.Native.Nat.{ℕ, zero, suc, _+_, _<_}
 use mathlib.Core.Path.{_≡_, subst}
 use mathlib.Core.List.{List, [], _∷_}
 use native.Mathlib.Omega.{arith}
 use lib.Dec.{eqb, ltb, leb}
 use lib.ListN.{length, getD, take, drop}
 use lib.Seq.{getD-drop}
-use Rattle.reading.specs.Said.{Said, gives, refuses, onward, told}
+use Rattle.reading.specs.Said.{Told, Said, gives, refuses, onward, told}
 use Rattle.reading.specs.Bytes.{AllBytes}
 use Rattle.reading.specs.View.{View, view}
 use Rattle.reading.specs.declared.Refusal.{Refusal}
 use Rattle.reading.proofs.Picked.{either}
-use Rattle.decoders.specs.Codes.{meant, sizeTable, moduleTable, densityTable, packageTable, ioWidthTable, bankGroupTable, banksTable, busWidthTable, channelTable}
-use Rattle.decoders.specs.Codes.{sizeOf, deviceOf, moduleOf, densityOf, packageOf, ioWidthOf, bankGroupsOf, banksOf, busWidthOf, channelsOf}
-use Rattle.decoders.specs.Identity.{identityAt, identityOf}
-use Rattle.decoders.specs.Timing.{timingsAt, timingsOf}
+use Rattle.reading.proofs.Reach.{named-before}
+use Rattle.decoders.specs.Identity.{identityRanges, identityAt, identityOf}
+use Rattle.decoders.specs.Timing.{timingRanges, timingsAt, timingsOf}
 use Rattle.decoders.specs.Clocks.{clockTableOf}
 use Rattle.decoders.specs.declared.timing.Timings.{Timings}
+use Rattle.decoders.proofs.Refused.{OfRefused, onward-refused, identity-refusals, timings-refusals}
 use Rattle.rules.specs.Lint.{findingsOf}
 use Rattle.rules.specs.Table.{allIn}
 use Rattle.report.specs.Form.{restOf, findingsIn}
@@ -30,45 +31,28 @@ use Rattle.roostcord.specs.State.{short, countIn, arrivedIn, asked, fres
 use Rattle.roostcord.proofs.Once.{InBits, word-once}
 
 -- a refusal, if it is one, has its values within their bits
+abbrev Small : Told → Type 0
+Small t = (t .first < 4096) × (t .second < 1024)
+
 abbrev pub Fits : {A : Type 0} → Said A → Type 0
-Fits (gives a) = Unit {0}
-Fits (refuses t) = (t .first < 4096) × (t .second < 1024)
-
--- a field's table: a code that it does not have is carried with the field's number
-codes-fit : {A : Type 0} (field : ℕ) (rows : List (ℕ × A)) (code : ℕ) → field < 4096 → code < 1024 → Fits (meant field rows code)
-codes-fit field [] code h k = (h, k)
-codes-fit field ((n, x) ∷ rows) code h k = either Fits (eqb code n) tt (codes-fit field rows code h k)
-
-devices : (byte2 : ℕ) → byte2 < 256 → Fits (deviceOf byte2)
-unfolding deviceOf
-devices byte2 h = either Fits (eqb byte2 0x12) tt (omega arith, omega arith)
+Fits said = OfRefused Small said
 
 -- a step of a chain of checks
 on-fits : {A B : Type 0} (s : Said A) (go : A → Said B) → Fits s → ((a : A) → Fits (go a)) → Fits (onward refuses s go)
-on-fits (gives a) go h k = k a
-on-fits (refuses t) go h k = h
+on-fits = onward-refused Small
 
 -- a refusal that carries nothing
 plain : (0 < 4096) × (0 < 1024)
 plain = (omega arith, omega arith)
 
+-- the offset that is missing is one that is read, and those lie before the reach
 identity-fits : (v : View) → v .byte 2 < 256 → Fits (identityAt v)
-unfolding sizeOf moduleOf densityOf packageOf ioWidthOf bankGroupsOf banksOf busWidthOf channelsOf
 identity-fits v h =
-    either Fits (v .below 236) plain
-    (on-fits (sizeOf (v .byte 0 / 16 % 8)) _ (codes-fit 1 sizeTable (v .byte 0 / 16 % 8) (omega arith) (omega arith)) (λ size.
-    on-fits (deviceOf (v .byte 2)) _ (devices (v .byte 2) h) (λ device.
-    on-fits (moduleOf (v .byte 3 % 16)) _ (codes-fit 2 moduleTable (v .byte 3 % 16) (omega arith) (omega arith)) (λ m.
-    on-fits (densityOf (v .byte 4 % 32)) _ (codes-fit 3 densityTable (v .byte 4 % 32) (omega arith) (omega arith)) (λ density.
-    on-fits (packageOf (v .byte 4 / 32 % 8)) _ (codes-fit 4 packageTable (v .byte 4 / 32 % 8) (omega arith) (omega arith)) (λ p.
-    on-fits (ioWidthOf (v .byte 6 / 32 % 8)) _ (codes-fit 5 ioWidthTable (v .byte 6 / 32 % 8) (omega arith) (omega arith)) (λ width.
-    on-fits (bankGroupsOf (v .byte 7 / 32 % 8)) _ (codes-fit 6 bankGroupTable (v .byte 7 / 32 % 8) (omega arith) (omega arith)) (λ g.
-    on-fits (banksOf (v .byte 7 % 8)) _ (codes-fit 7 banksTable (v .byte 7 % 8) (omega arith) (omega arith)) (λ b.
-    on-fits (busWidthOf (v .byte 235 % 8)) _ (codes-fit 8 busWidthTable (v .byte 235 % 8) (omega arith) (omega arith)) (λ bus.
-    on-fits (channelsOf (v .byte 235 / 32 % 8)) _ (codes-fit 9 channelTable (v .byte 235 / 32 % 8) (omega arith) (omega arith)) (λ c. tt)))))))))))
+    identity-refusals Small v (omega arith, omega arith) (λ field code f c. (omega arith, omega arith))
+    (λ i e. (omega (arith, named-before identityRanges v i e), omega arith))
 
 timings-fits : (v : View) → Fits (timingsAt v)
-timings-fits v = either Fits (v .below 94) plain tt
+timings-fits v = timings-refusals Small v (λ i e. (omega (arith, named-before timingRanges v i e), omega arith))
 
 table-fits : (t : Timings) → Fits (clockTableOf t)
 unfolding clockTableOf

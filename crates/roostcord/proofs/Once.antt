@@ -12,7 +12,7 @@ use Rattle.reading.proofs.Once.{told-once}
 use Rattle.roostcord.specs.Word.{refusalWord}
 
 numbered : (r : Refusal) → (0 < told r .number) × (told r .number < 256)
-numbered Truncated = (omega arith, omega arith)
+numbered (Truncated offset) = (omega arith, omega arith)
 numbered (NotDdr5 byte2) = (omega arith, omega arith)
 numbered (UnknownEnum field code) = (omega arith, omega arith)
 numbered ListTooShort = (omega arith, omega arith)

@@ -1,5 +1,6 @@
 -- Every line of the bench holds: by computation over the views that the images make, which are the views of their bytes. Assumes nothing.
 use mathlib.Core.Path.{refl, subst⁻¹, fun-ext}
+use Rattle.reading.specs.Ranges.{missingAt}
 use Rattle.reading.proofs.Made.{made, view-made}
 use Rattle.decoders.specs.Codes.{sizeOf, deviceOf, moduleOf, densityOf, packageOf, ioWidthOf, bankGroupsOf, banksOf, busWidthOf, channelsOf}
 use Rattle.decoders.specs.Timing.{le16At, casAt}
@@ -12,7 +13,7 @@ next a b = (a, b)
 
 -- a row for each line of document 01
 computed : All (holds made) bench
-unfolding bench sizeOf deviceOf moduleOf densityOf packageOf ioWidthOf bankGroupsOf banksOf busWidthOf channelsOf le16At casAt onLadder lintAt
+unfolding bench missingAt sizeOf deviceOf moduleOf densityOf packageOf ioWidthOf bankGroupsOf banksOf busWidthOf channelsOf le16At casAt onLadder lintAt
 computed =
     next refl (next refl (next refl
     (next refl (next refl (next refl (next refl

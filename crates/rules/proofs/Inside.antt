@@ -12,14 +12,16 @@ use lib.ListN.{getD}
 use Rattle.reading.specs.View.{View, view}
 use Rattle.reading.specs.Said.{Said, gives, refuses}
 use Rattle.reading.specs.Bytes.{insideAt, AllBytes}
+use Rattle.reading.specs.Ranges.{missingAt}
 use Rattle.reading.proofs.Picked.{either}
+use Rattle.reading.proofs.Reach.{by-missing}
 use Rattle.findings.specs.declared.Found.{Found}
 use Rattle.findings.specs.declared.Found.the-variants.{Nothing, One}
 use Rattle.findings.specs.Hold.{toList, cat}
 use Rattle.decoders.specs.Codes.{bitsIn}
 use Rattle.decoders.specs.Cas.{inSet}
 use Rattle.decoders.specs.Identity.{identityAt}
-use Rattle.decoders.specs.Timing.{le16At, timesAt, timingsAt, rateOf}
+use Rattle.decoders.specs.Timing.{timingRanges, le16At, timesAt, timingsAt, rateOf}
 use Rattle.decoders.specs.declared.identity.IdentityAndBase.{IdentityAndBase}
 use Rattle.decoders.specs.declared.identity.PackageType.{PackageType}
 use Rattle.decoders.specs.declared.identity.PackageType.the-variants.{Monolithic, DualDie, ThreeDs}
@@ -151,6 +153,9 @@ good-timings t h =
     (more (good-clock Trp (t .trp .0) (t .«tckavg_min» .0))
     (more (good-rate (rateOf (t .«tckavg_min» .0))) done))))))
 
+given-timings : (v : View) → le16At v 30 ≤ 65535 → OfGiven (timingsAt v) (λ t. Goods (each timingRules t))
+given-timings v h = by-missing (missingAt timingRanges v) (λ e. rw e (good-timings (timesAt v) h)) (λ i e. rw e tt)
+
 -- two bytes make a number of at most 65,535
 short : (v : View) (at : ℕ) → v .byte at < 256 → v .byte (at + 1) < 256 → le16At v at ≤ 65535
 unfolding le16At
@@ -162,12 +167,11 @@ unfolding lintAt
 inside s bytes =
     let v = view s in
     let taa = short v 30 (bytes 30) (bytes 31) in
-    let timed = either (λ said. OfGiven said (λ t. Goods (each timingRules t))) (v .below 94) tt (good-timings (timesAt v) taa) in
     goods-in (each lintRules v)
     (goods-append (good-regions s bytes)
     (goods-append
     (goods-given identityRules (identityAt v) (good-identity (identityAt v) (decoded v)))
-    (goods-given timingRules (timingsAt v) timed)))
+    (goods-given timingRules (timingsAt v) (given-timings v taa))))
 
 -- ---- the package rule, which a decoded image never breaks, of any package and any die count that a byte holds
 listed-package : (p : PackageType) (dies : ℕ) → dies ≤ 255 → inTable (packageDieCountMismatch p dies) ≡ true

@@ -8,13 +8,15 @@ use lib.Dec.{eqb}
 use lib.ListN.{length, take, drop, length-append}
 use Rattle.reading.specs.View.{View, view}
 use Rattle.reading.specs.Said.{Said, gives, refuses, onward}
+use Rattle.reading.specs.Ranges.{missingAt}
 use Rattle.reading.proofs.Picked.{either}
+use Rattle.reading.proofs.Reach.{by-missing}
 use Rattle.findings.specs.declared.Found.{Found}
 use Rattle.findings.specs.declared.Found.the-variants.{Nothing}
 use Rattle.findings.specs.Hold.{cat}
 use Rattle.findings.proofs.Laws.{length-cat, cat-append}
 use Rattle.decoders.specs.Codes.{meant, packageTable, busWidthTable, sizeOf, deviceOf, moduleOf, densityOf, packageOf, ioWidthOf, bankGroupsOf, banksOf, busWidthOf, channelsOf}
-use Rattle.decoders.specs.Identity.{identityAt}
+use Rattle.decoders.specs.Identity.{identityRanges, identityAt}
 use Rattle.decoders.specs.declared.identity.IdentityAndBase.{IdentityAndBase}
 use Rattle.decoders.specs.declared.identity.PackageType.{PackageType}
 use Rattle.rules.specs.Rules.{coherence, each, ratedRules}
@@ -61,7 +63,8 @@ pub record Decoded (d : IdentityAndBase) : Type 0 where
 
 pub decoded : (v : View) → OfGiven (identityAt v) Decoded
 decoded v =
-    either (λ s. OfGiven s Decoded) (v .below 236) tt
+    by-missing (missingAt identityRanges v)
+    (λ e. rw e
     (through Decoded (sizeOf (v .byte 0 / 16 % 8)) _ (λ size _.
     through Decoded (deviceOf (v .byte 2)) _ (λ device _.
     through Decoded (moduleOf (v .byte 3 % 16)) _ (λ m _.
@@ -75,7 +78,8 @@ decoded v =
     record {
       coherent = given _ of-p (packages (v .byte 4 / 32 % 8));
       bus = given _ of-bus (buses (v .byte 235 % 8));
-    })))))))))))
+    }))))))))))))
+    (λ i e. rw e tt)
 
 silent : (said : Said IdentityAndBase) → OfGiven said Decoded → onGiven (λ d. coherence (d .«package_type») (d .«die_count»)) said ≡ Nothing
 silent (gives d) h = h .coherent

@@ -6,6 +6,7 @@ use lib.Dec.{eqb}
 use Rattle.reading.specs.Pick.{pick}
 use Rattle.reading.specs.View.{View}
 use Rattle.reading.specs.Bytes.{insideAt}
+use Rattle.reading.specs.Ranges.{zipped}
 use Rattle.findings.specs.declared.Found.{Found}
 use Rattle.findings.specs.declared.Found.the-variants.{Nothing, One}
 use Rattle.rules.specs.Table.{reservedBytesNonzero}
@@ -24,12 +25,6 @@ firstFrom v i (suc n) = pick (eqb (v .byte i) 0) (firstFrom v (suc i) n) (One (r
 
 abbrev pub regionAt : (offset len : ℕ) → View → Found
 regionAt offset len v = pick (insideAt v offset len) (firstFrom v offset len) Nothing
-
--- what is made of each place of two tables
-abbrev pub zipped : {A : Type 0} → (ℕ → ℕ → A) → List ℕ → List ℕ → List A
-zipped f [] ys = []
-zipped f (x ∷ xs) [] = []
-zipped f (x ∷ xs) (y ∷ ys) = f x y ∷ zipped f xs ys
 
 -- the rules on the regions, in order
 abbrev pub regionRules : List (View → Found)

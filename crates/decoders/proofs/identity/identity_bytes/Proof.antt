@@ -1,9 +1,10 @@
 -- `decoders::identity::identity_bytes` meets its contract: each byte is what its reader ensures, so the record is one path of records.
 -- Assumes nothing.
+use mathlib.Core.Path.{sym, ap, _∙_}
 use borrow.Author.Needs.{needs}
-use borrow.Author.Tests.{lt-ltb, le-ltb}
-use Rattle.reading.specs.Said.{gives}
-use Rattle.decoders.specs.Identity.{identityBytesOf}
+use Rattle.reading.specs.Said.{gives, refuses}
+use Rattle.reading.proofs.Reach.{none-missing, cut}
+use Rattle.decoders.specs.Identity.{identityRanges, identityBytesOf}
 use Rattle.decoders.proofs.identity.identity_bytes.Statement.{statement}
 use Rattle.decoders.proofs.identity.identity_bytes.Tie as tie
 
@@ -12,7 +13,12 @@ unfolding identityBytesOf
 identity-bytes-spec =
     tie.close
     (tie.spec
-    (λ c. simp (lt-ltb _ _ (c .if1 .taken)))
+    (λ c. search needs)
+    (λ c. search needs)
+    (λ c κs. search needs)
+    (λ c.
+    let b = c .before .before .before in
+    ap refuses (c .truncated .ensures) ∙ sym (cut identityRanges (b .before .before .args .image .now) refuses _ (b .if1 .taken)))
     (λ c κs. search needs)
     (λ c κs. search needs)
     (λ c κs. search needs)
@@ -25,7 +31,7 @@ identity-bytes-spec =
     (λ c κs. search needs)
     (λ c.
     let p = c .before .before .before .before .before .before .before .before in
-    simp (le-ltb _ _ (p .before .before .if1 .left))
+    rw (none-missing identityRanges (p .before .before .before .before .args .image .now) (p .before .before .if1 .left))
     (λ i. gives (record {
       «spd_size» = p .before .byte-or-zero .ensures i;
       «spd_revision» = p .byte-or-zero2 .ensures i;
