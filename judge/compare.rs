@@ -1,16 +1,15 @@
-//! One image, asked of both sides: every number of both records, the refusals with what they carry, the CAS list, and every
-//! finding in order. Our answers come from the C library; the Rust's are put into document 01's numbers here.
+//! One image, asked of both sides: every number of both records, the refusals with what they carry, the offset that is missing among
+//! it, the CAS list, and every finding in order. Our answers come from the C library; the Rust's are put into document 01's numbers here.
 //!
 //! The report form has no severity, so the Rust's severity of each finding is held against document 01's for its code; and so is
 //! the severity that the library answers when it reads the report back, with all else that the report says. The clock table,
 //! which the Rust does not have, is held against document 01's definition of it over the Rust's times.
 
 use crate::images::Rng;
-use crate::numbers::{DEVICE_TYPE, Row, field_number, identity_numbers, row};
+use crate::numbers::{DEVICE_TYPE, Row, field_number, identity_lacks, identity_numbers, row};
 use crate::ours;
 use spdr::{DecodeError, Finding, IdentityAndBase, Severity, Timings};
 
-const IDENTITY_BYTES: usize = 236;
 /// What lent lists hold before a call. A refused call must leave it.
 const STAY: u8 = 0xA5;
 
@@ -114,22 +113,22 @@ fn list<T: PartialEq + Copy + From<u8> + std::fmt::Display>(
     }
 }
 
-/// What document 01 makes of the Rust's identity. Two rows of docs/DIFFERENCES.md are told apart here.
+/// What the documents make of the Rust's identity. Two rows of docs/DIFFERENCES.md are told apart here.
 fn expected_identity(image: &[u8], rust: &Result<IdentityAndBase, DecodeError>) -> (Verdict, Result<[u32; 18], i32>) {
-    match rust {
-        Err(DecodeError::UnknownEnum { .. }) if image.len() < IDENTITY_BYTES => (Verdict::ShortImage, Err(refusal(1, 0, 0))),
-        Err(DecodeError::UnknownEnum { field: "SPD device size", value }) => (Verdict::Same, Err(refusal(3, 1, (*value).into()))),
-        _ if image.len() >= IDENTITY_BYTES && matches!(image[2], 0x0B | 0x0C | 0x13) => {
-            (Verdict::OtherType, Err(refusal(2, image[2].into(), 0)))
+    match (rust, identity_lacks(image.len())) {
+        (Err(DecodeError::UnknownEnum { .. }), Some(offset)) => (Verdict::ShortImage, Err(refusal(1, offset as i32, 0))),
+        (Err(DecodeError::UnknownEnum { field: "SPD device size", value }), None) => {
+            (Verdict::Same, Err(refusal(3, 1, (*value).into())))
         }
-        Ok(d) => (Verdict::Same, Ok(identity_numbers(d))),
-        Err(e) => (Verdict::Same, Err(decode_error(*e))),
+        (_, None) if matches!(image[2], 0x0B | 0x0C | 0x13) => (Verdict::OtherType, Err(refusal(2, image[2].into(), 0))),
+        (Ok(d), _) => (Verdict::Same, Ok(identity_numbers(d))),
+        (Err(e), _) => (Verdict::Same, Err(decode_error(*e))),
     }
 }
 
 fn decode_error(e: DecodeError) -> i32 {
     match e {
-        DecodeError::Truncated { .. } => refusal(1, 0, 0),
+        DecodeError::Truncated { offset, .. } => refusal(1, offset as i32, 0),
         DecodeError::UnknownEnum { field: DEVICE_TYPE, value } => refusal(2, value.into(), 0),
         DecodeError::UnknownEnum { field, value } => match field_number(field) {
             Some(number) => refusal(3, number as i32, value.into()),

@@ -24,11 +24,12 @@
 //!     rated     0 without a rated profile, else 1 and its findings as above; judge/vendor.rs says where an image has one
 //!
 //! The domain: byte 2 is 0x12 or one that the Rust refuses too, and an image is zero from byte 640 on but for the block of a rated
-//! profile. An image under 236 bytes with a bad code is of kind 2: the Rust names the code, document 01 asks for refusal 1 first.
+//! profile. An image under 236 bytes with a bad code is of kind 2: the Rust names the code, document 01 asks for refusal 1 first, which
+//! names the first byte that is missing.
 
 mod numbers;
 
-use numbers::{DEVICE_TYPE, field_number, identity_numbers, row};
+use numbers::{DEVICE_TYPE, field_number, identity_lacks, identity_numbers, row};
 use spdr::{DecodeError, Finding, Severity, TimingPair, Timings, Xmp};
 use std::collections::{BTreeMap, BTreeSet};
 use std::io::Write;
@@ -51,6 +52,14 @@ fn bad_code(error: DecodeError) -> Option<Vec<u32>> {
     }
     let number = field_number(field).unwrap_or_else(|| panic!("a field that document 01 does not have: {field}"));
     Some(vec![3, number, value.into()])
+}
+
+/// Refusal 1, with the offset that the Rust names.
+fn truncated(error: DecodeError) -> Vec<u32> {
+    let DecodeError::Truncated { offset, .. } = error else {
+        panic!("a refusal that document 01 does not have: {error}");
+    };
+    vec![1, offset as u32, 0]
 }
 
 fn timing_numbers(t: &Timings) -> Vec<u32> {
@@ -97,16 +106,13 @@ fn answers(image: &[u8]) -> Answers {
     let mut listed = false;
     let identity = match spdr::decode_identity_and_base(image) {
         Ok(d) => [&[0], &identity_numbers(&d)[..]].concat(),
-        Err(error) => match bad_code(error) {
-            Some(_) if image.len() < 236 => {
+        Err(error) => match (bad_code(error), identity_lacks(image.len())) {
+            (Some(_), Some(offset)) => {
                 listed = true;
-                vec![1, 0, 0]
+                vec![1, offset, 0]
             }
-            Some(refusal) => refusal,
-            None => {
-                assert!(image.len() < 236, "a long image that is told to be short");
-                vec![1, 0, 0]
-            }
+            (Some(refusal), None) => refusal,
+            (None, _) => truncated(error),
         },
     };
     let (timings, rate, cas) = match spdr::decode_timings(image) {
@@ -116,10 +122,7 @@ fn answers(image: &[u8]) -> Answers {
             cas.extend(list);
             (timing_numbers(&t), vec![1, t.base_data_rate_mt_s()], cas)
         }
-        Err(error) => {
-            assert!(matches!(error, DecodeError::Truncated { .. }) && image.len() < 94);
-            (vec![1, 0, 0], vec![0], vec![0])
-        }
+        Err(error) => (truncated(error), vec![0], vec![0]),
     };
     // The base rules' findings are those without the mark; what comes behind them is the profile's.
     let all = findings_of(image);
@@ -370,10 +373,10 @@ fn bench(list: &mut List) {
     list.add(&timed(&[(TAA, 16641)]));
 }
 
-/// Every length at which an answer changes, and its neighbours, on images that show it.
+/// Every length at which an answer changes, the offset that is missing too, and its neighbours, on images that show it.
 fn lengths(list: &mut List) {
-    let mut at: BTreeSet<usize> = (0..=9).collect();
-    for end in [94, 236, 512, 640, 672, 1024, 2047] {
+    let mut at: BTreeSet<usize> = (0..=95).chain([233, 234]).collect();
+    for end in [236, 512, 640, 672, 1024, 2047] {
         at.extend([end - 1, end, end + 1]);
     }
     for (first, count) in REGIONS {

@@ -2,6 +2,14 @@
 
 use spdr::{ClockTimingParam, DeviceType, Finding, IdentityAndBase, ModuleType, PackageType, TimingOrder};
 
+/// What identity reads, by document 02's request 2026-01: ascending, as the Rust reads it.
+const IDENTITY_READS: [u32; 10] = [0, 1, 2, 3, 4, 5, 6, 7, 234, 235];
+
+/// The first of them that an image of this length lacks.
+pub fn identity_lacks(len: usize) -> Option<u32> {
+    IDENTITY_READS.into_iter().find(|&offset| offset as usize >= len)
+}
+
 /// The field whose code is refused by 2, with the byte; every other is refused by 3, with the field's number.
 pub const DEVICE_TYPE: &str = "DRAM device type";
 
