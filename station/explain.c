@@ -24,7 +24,9 @@ const char *explain_refusal(int32_t answer, int needs, char text[SENTENCE_MAX]) 
   const char *plain = "The library was lent too little room, which is a fault of this program: report it.";
   switch (ROOSTCORD_NUMBER(answer)) {
     case ROOSTCORD_TRUNCATED:
-      snprintf(text, SENTENCE_MAX, "Bytes 0 to %d are needed, and the image ends before: read the module to its end.", needs - 1);
+      snprintf(text, SENTENCE_MAX,
+               "Byte %d is missing, the first of those that are needed; the last is byte %d. Reseat the module, and read it to its end.",
+               (int)ROOSTCORD_FIRST(answer), needs - 1);
       return text;
     case ROOSTCORD_NOT_DDR5:
     case ROOSTCORD_UNKNOWN_CODE: explain_code(answer, text); return text;

@@ -67,6 +67,7 @@ static void put_refusal(const char *key, int32_t answer, int needs, const struct
   char text[SENTENCE_MAX];
   int number = ROOSTCORD_NUMBER(answer);
   printf("\"%s\":{\"number\":%d,\"name\":\"%s\"", key, number, refusal_name(number));
+  if (number == ROOSTCORD_TRUNCATED) put_number("missing", (unsigned long long)ROOSTCORD_FIRST(answer));
   if (number == ROOSTCORD_NOT_DDR5) put_number("device_type", (unsigned long long)ROOSTCORD_FIRST(answer));
   if (number == ROOSTCORD_UNKNOWN_CODE) {
     put_number("field", (unsigned long long)ROOSTCORD_FIRST(answer));

@@ -11,7 +11,8 @@ static void print_refusal(int32_t answer, int needs, const struct options *optio
   char text[SENTENCE_MAX];
   int number = ROOSTCORD_NUMBER(answer);
   printf("refused %d", number);
-  if (number == ROOSTCORD_NOT_DDR5 || number == ROOSTCORD_UNKNOWN_CODE) printf(" %d", ROOSTCORD_FIRST(answer));
+  if (number == ROOSTCORD_TRUNCATED || number == ROOSTCORD_NOT_DDR5 || number == ROOSTCORD_UNKNOWN_CODE)
+    printf(" %d", ROOSTCORD_FIRST(answer));
   if (number == ROOSTCORD_UNKNOWN_CODE) printf(" %d", ROOSTCORD_SECOND(answer));
   printf("\n");
   if (options->explain) printf("  %s\n", explain_refusal(answer, needs, text));

@@ -26,9 +26,9 @@
 /*---- the version of this header ----*/
 
 #define ROOSTCORD_VERSION_MAJOR 1
-#define ROOSTCORD_VERSION_MINOR 0
+#define ROOSTCORD_VERSION_MINOR 1
 #define ROOSTCORD_VERSION_PATCH 0
-/* as one number, which grows with every version, and as text: "1.0.0" */
+/* as one number, which grows with every version, and as text: "1.1.0" */
 #define ROOSTCORD_VERSION (ROOSTCORD_VERSION_MAJOR * 65536 + ROOSTCORD_VERSION_MINOR * 256 + ROOSTCORD_VERSION_PATCH)
 #define ROOSTCORD_VERSION_STRING \
   ROOSTCORD_TEXT(ROOSTCORD_VERSION_MAJOR) "." ROOSTCORD_TEXT(ROOSTCORD_VERSION_MINOR) "." ROOSTCORD_TEXT(ROOSTCORD_VERSION_PATCH)
@@ -60,7 +60,7 @@ extern "C" {
 
 /* Refusal numbers. What is not said to carry a value carries none. */
 enum {
-  ROOSTCORD_TRUNCATED = 1,        /* the image is shorter than the decoder needs */
+  ROOSTCORD_TRUNCATED = 1,        /* the image lacks a byte that is read; first: the smallest such offset */
   ROOSTCORD_NOT_DDR5 = 2,         /* byte 2 is not 0x12; first: the byte */
   ROOSTCORD_UNKNOWN_CODE = 3,     /* a code outside its table; first: the field, ROOSTCORD_FIELD_..; second: the code */
   ROOSTCORD_LIST_TOO_SHORT = 4,   /* the lent list or state has too few places */
@@ -91,7 +91,7 @@ enum {
 enum {
   ROOSTCORD_IMAGE_MAX = 2048, /* of an image that is fed in pieces; the whole-image calls take any length */
   ROOSTCORD_STATE_SIZE = 512,
-  ROOSTCORD_IDENTITY_NEEDS = 236, /* bytes of an image; a shorter one is refused 1 */
+  ROOSTCORD_IDENTITY_NEEDS = 236, /* bytes of an image, up to the last that is read; a shorter one is refused 1 */
   ROOSTCORD_TIMINGS_NEED = 94,
   ROOSTCORD_IDENTITY_COUNT = 18, /* numbers of a list */
   ROOSTCORD_TIMINGS_COUNT = 30,

@@ -178,9 +178,21 @@ static const struct field {
               {7, 5, 3, 0xF},  {7, 0, 3, 0x7},   {235, 0, 3, 0xF}, {235, 5, 3, 0xF}};
 enum { FIELDS = sizeof fields / sizeof *fields };
 
+/* What each decoder reads: the ranges by their first byte and the one behind their last. */
+static const size_t identity_reads[][2] = {{0, 8}, {234, IDENTITY_NEEDS}}, timings_read[][2] = {{20, 29}, {30, 48}, {70, TIMINGS_NEED}};
+#define TRUNCATED(reads, n) truncated(reads, sizeof reads / sizeof *reads, n)
+
+/* Refusal 1, with the first byte of the ranges that n bytes lack. */
+static int32_t truncated(const size_t (*reads)[2], size_t ranges, size_t n) {
+  for (size_t k = 0; k < ranges; k++)
+    for (size_t offset = reads[k][0]; offset < reads[k][1]; offset++)
+      if (offset >= n) return -(ROOSTCORD_TRUNCATED + 256 * (int32_t)offset);
+  return 0;
+}
+
 /* The answer about the identity of an image, with places enough. */
 static int32_t identity_of(const uint8_t *image, size_t n) {
-  if (n < IDENTITY_NEEDS) return -ROOSTCORD_TRUNCATED;
+  if (n < IDENTITY_NEEDS) return TRUNCATED(identity_reads, n);
   for (int32_t k = 0; k < FIELDS; k++) {
     int32_t code = image[fields[k].byte] >> fields[k].low & ((1 << fields[k].bits) - 1);
     if (!(fields[k].accepted >> code & 1)) return -(ROOSTCORD_UNKNOWN_CODE + 256 * (k + 1) + (1 << 20) * code);
@@ -191,18 +203,18 @@ static int32_t identity_of(const uint8_t *image, size_t n) {
 
 static int32_t timings_of(const uint8_t *image, size_t n) {
   (void)image;
-  return n < TIMINGS_NEED ? -ROOSTCORD_TRUNCATED : ROOSTCORD_TIMINGS_COUNT;
+  return n < TIMINGS_NEED ? TRUNCATED(timings_read, n) : ROOSTCORD_TIMINGS_COUNT;
 }
 
 static int32_t clocks_of(const uint8_t *image, size_t n) {
-  if (n < TIMINGS_NEED) return -ROOSTCORD_TRUNCATED;
+  if (n < TIMINGS_NEED) return TRUNCATED(timings_read, n);
   return image[20] == 0 && image[21] == 0 ? -ROOSTCORD_ZERO_CLOCK : ROOSTCORD_CLOCKS_COUNT;
 }
 
 /* The CAS latencies of an image, 20 + 2k for bit k of bytes 24 to 28, and their count. */
 static int32_t cas_latencies_of(const uint8_t *image, size_t n, uint16_t *list) {
   int32_t count = 0;
-  if (n < TIMINGS_NEED) return -ROOSTCORD_TRUNCATED;
+  if (n < TIMINGS_NEED) return TRUNCATED(timings_read, n);
   for (int k = 0; k < ROOSTCORD_CAS_LATENCIES_MAX; k++)
     if (image[24 + k / 8] >> k % 8 & 1) list[count++] = (uint16_t)(20 + 2 * k);
   return count;

@@ -39,7 +39,7 @@ const STATE_SIZE: usize = 2 + KEPT;
 pub extern "C" fn roostcord_version() -> u32
     ensures { λ r. ⌜ r ≡ libraryVersion ⌝ }
 {
-    0x010000
+    0x010100
 }
 
 // Lints an image and writes its report: how many bytes.
