@@ -258,24 +258,24 @@ ROOSTCORD_MUST_USE int32_t roostcord_report(const uint8_t *report, size_t report
 
 /* Decodes the identity of an image into a list of numbers; ROOSTCORD_IDENTITY_.. are their places.
  * Answers ROOSTCORD_IDENTITY_COUNT.
- * Refuses 4 where out_len is less than that; 1 where image_len is less than ROOSTCORD_IDENTITY_NEEDS; 3 for the first field; 2; 3 for the
- * other fields in their order. */
+ * Refuses 4 where out_len is less than that; 1 where one of bytes 0 to 7, 234 and 235 is missing, which is below ROOSTCORD_IDENTITY_NEEDS
+ * bytes; 3 for the first field; 2; 3 for the other fields in their order. */
 ROOSTCORD_MUST_USE int32_t roostcord_identity(const uint8_t *image, size_t image_len, uint32_t *out, size_t out_len);
 
 /* Decodes the timings of an image into a list of numbers; ROOSTCORD_TIMINGS_.. are their places.
  * Answers ROOSTCORD_TIMINGS_COUNT.
- * Refuses 4 where out_len is less than that; 1 where image_len is less than ROOSTCORD_TIMINGS_NEED. */
+ * Refuses 4 where out_len is less than that; 1 where one of bytes 20 to 28, 30 to 47 and 70 to 93 is missing, which is below
+ * ROOSTCORD_TIMINGS_NEED bytes. */
 ROOSTCORD_MUST_USE int32_t roostcord_timings(const uint8_t *image, size_t image_len, uint32_t *out, size_t out_len);
 
 /* Lists the CAS latencies that an image supports, ascending.
  * Answers how many there are, 0 to ROOSTCORD_CAS_LATENCIES_MAX.
- * Refuses 4 where out_len is less than ROOSTCORD_CAS_LATENCIES_MAX, however few there are; 1 where image_len is less than
- * ROOSTCORD_TIMINGS_NEED. */
+ * Refuses 4 where out_len is less than ROOSTCORD_CAS_LATENCIES_MAX, however few there are; 1 as roostcord_timings does. */
 ROOSTCORD_MUST_USE int32_t roostcord_cas_latencies(const uint8_t *image, size_t image_len, uint16_t *out, size_t out_len);
 
 /* Counts nine times of an image in clocks of tCKmin, rounded up; ROOSTCORD_CLOCKS_.. are their places.
  * Answers ROOSTCORD_CLOCKS_COUNT.
- * Refuses 4 where out_len is less than that; 1 where image_len is less than ROOSTCORD_TIMINGS_NEED; 7. */
+ * Refuses 4 where out_len is less than that; 1 as roostcord_timings does; 7. */
 ROOSTCORD_MUST_USE int32_t roostcord_clocks(const uint8_t *image, size_t image_len, uint32_t *out, size_t out_len);
 
 /*---- an image that arrives in pieces ----
