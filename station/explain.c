@@ -25,7 +25,7 @@ const char *explain_refusal(int32_t answer, int needs, char text[SENTENCE_MAX]) 
   switch (ROOSTCORD_NUMBER(answer)) {
     case ROOSTCORD_TRUNCATED:
       snprintf(text, SENTENCE_MAX,
-               "Byte %d is missing, the first of those that are needed; the last is byte %d. Reseat the module, and read it to its end.",
+               "Byte %d, which is needed, is missing; the last that is needed is byte %d. Reseat the module, and read it to its end.",
                (int)ROOSTCORD_FIRST(answer), needs - 1);
       return text;
     case ROOSTCORD_NOT_DDR5:

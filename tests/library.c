@@ -660,7 +660,9 @@ int main(int argc, char **argv) {
     }
     size_t n = fread(image, 1, sizeof image, file);
     fclose(file);
-    static const size_t lengths[] = {0, 1, 15, 16, 29, 30, 93, 94, 127, 128, 191, 192, 229, 230, 235, 236, 239, 240, 509, 510, 512};
+    static const size_t lengths[] = {0,  1,   5,   7,   8,   15,  16,  19,  20,  28,  29,  30,  47,  48,  69,  70,
+                                     93, 94,  100, 127, 128, 191, 192, 229, 230, 234, 235, 236, 239, 240, 509, 510,
+                                     512};
     for (size_t k = 0; k < sizeof lengths / sizeof *lengths; k++) {
       size_t len = lengths[k] < n ? lengths[k] : n;
       uint8_t *edge = guarded(len);
