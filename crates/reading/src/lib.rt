@@ -32,6 +32,8 @@ pub enum Refusal {
     ReportMalformed,
     // What is to be written is not the form's.
     NotReportable,
+    // In the strict mode, a date that is not decimal digits or whose week is not 1 to 53.
+    StrictDate,
 }
 
 impl Refusal {
@@ -52,6 +54,7 @@ impl Refusal {
             Refusal::ReportVersion => 10,
             Refusal::ReportMalformed => 11,
             Refusal::NotReportable => 12,
+            Refusal::StrictDate => 13,
         }
     }
 
@@ -72,6 +75,7 @@ impl Refusal {
             Refusal::ReportVersion => 0,
             Refusal::ReportMalformed => 0,
             Refusal::NotReportable => 0,
+            Refusal::StrictDate => 0,
         }
     }
 
@@ -92,6 +96,7 @@ impl Refusal {
             Refusal::ReportVersion => 0,
             Refusal::ReportMalformed => 0,
             Refusal::NotReportable => 0,
+            Refusal::StrictDate => 0,
         }
     }
 
@@ -112,6 +117,7 @@ impl Refusal {
             Refusal::ReportVersion => 0,
             Refusal::ReportMalformed => 0,
             Refusal::NotReportable => 0,
+            Refusal::StrictDate => 0,
         }
     }
 }
