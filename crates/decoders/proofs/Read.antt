@@ -1,9 +1,7 @@
 -- The timings of an image are those of the bytes that are read from it, and it has none where it does not have the bytes. Assumes nothing.
-use mathlib.Core.Path.{_≡_, refl, ap, sym, _∙_}
-use mathlib.Core.List.{List, [], _∷_, _++_}
-use Prim.Native.Nat.{ℕ, suc, _<_}
-use lib.ListN.{length, take, set, getD}
-use lib.Seq.{take-suc, take-suc-set}
+use mathlib.Core.Path.{_≡_, ap, sym, _∙_}
+use mathlib.Core.List.{List}
+use Prim.Native.Nat.{ℕ}
 use Rattle.reading.specs.View.{view}
 use Rattle.reading.specs.Ranges.{missingAt, reachOf}
 use Rattle.reading.specs.Said.{Said, gives, refuses, told, onward}
@@ -17,10 +15,6 @@ use Rattle.decoders.specs.declared.timing.TimingReach.{TimingReach}
 use Rattle.decoders.specs.declared.timing.TimingReach.the-variants as reach
 use Rattle.decoders.proofs.Fields.{said}
 use Rattle.decoders.proofs.Reach.{times-reach}
-
--- one byte more of s is copied to b
-pub one-more : (b s : List ℕ) (i : ℕ) → i < length b → i < length s → take i b ≡ take i s → take (suc i) (set b i (getD s i 0)) ≡ take (suc i) s
-one-more b s i h k e = take-suc-set b i (getD s i 0) h ∙ ap (_++ (getD s i 0 ∷ [])) e ∙ sym (take-suc s i 0 k)
 
 module _ (s : List ℕ) where
   in-bytes : timingsOf s ≡ onward refuses (timingReachOf s) (λ _. gives (timesAt (view (timingBytesOf s))))

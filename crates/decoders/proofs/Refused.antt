@@ -5,25 +5,16 @@ use mathlib.Core.List.{List, [], _∷_}
 use native.Mathlib.Omega.{arith}
 use lib.Dec.{eqb}
 use Rattle.reading.specs.View.{View}
-use Rattle.reading.specs.Said.{Told, no, Said, gives, refuses, refused, onward}
+use Rattle.reading.specs.Said.{Told, no, refuses, refused}
 use Rattle.reading.specs.Ranges.{missingAt}
 use Rattle.reading.specs.declared.Missing.the-variants.{At}
 use Rattle.reading.proofs.Picked.{either}
 use Rattle.reading.proofs.Reach.{by-missing}
+use Rattle.reading.proofs.Refused.{OfRefused, onward-refused}
 use Rattle.decoders.specs.Codes.{meant, sizeTable, moduleTable, densityTable, packageTable, ioWidthTable, bankGroupTable, banksTable, busWidthTable, channelTable}
 use Rattle.decoders.specs.Codes.{sizeOf, deviceOf, moduleOf, densityOf, packageOf, ioWidthOf, bankGroupsOf, banksOf, busWidthOf, channelsOf}
 use Rattle.decoders.specs.Identity.{identityRanges, identityAt}
 use Rattle.decoders.specs.Timing.{timingRanges, timingsAt}
-
--- P holds of the refusal, where it is one
-abbrev pub OfRefused : {A : Type 0} → (Told → Type 0) → Said A → Type 0
-OfRefused P (gives a) = Unit {0}
-OfRefused P (refuses t) = P t
-
--- a step of a chain of checks
-pub onward-refused : {A B : Type 0} (P : Told → Type 0) (s : Said A) (go : A → Said B) → OfRefused P s → ((a : A) → OfRefused P (go a)) → OfRefused P (onward refuses s go)
-onward-refused P (gives a) go h k = k a
-onward-refused P (refuses t) go h k = h
 
 -- what holds of the refusal of a missing byte, of another device type and of each unknown code, holds of every refusal
 module _ (P : Told → Type 0) (v : View) where

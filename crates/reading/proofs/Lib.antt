@@ -7,3 +7,5 @@ pub mod Lacking
 pub mod Smallest
 pub mod Reach
 pub mod Made
+pub mod Copied
+pub mod Refused

@@ -11,12 +11,12 @@ use Rattle.reading.specs.Made.{Image, sparse, firsts, bytesOf}
 abbrev pub made : Image → View
 made image = record { below = λ n. ltb (image .size) n; byte = λ i. pick (ltb i (image .size)) (sparse (image .nonzero) i) 0 }
 
-length-firsts : (n : ℕ) (f : ℕ → ℕ) → length (firsts n f) ≡ n
+pub length-firsts : (n : ℕ) (f : ℕ → ℕ) → length (firsts n f) ≡ n
 unfolding firsts
 length-firsts zero f = refl
 length-firsts (suc n) f = ap suc (length-firsts n (λ i. f (suc i)))
 
-getD-firsts : (n : ℕ) (f : ℕ → ℕ) (i : ℕ) → getD (firsts n f) i 0 ≡ pick (ltb i n) (f i) 0
+pub getD-firsts : (n : ℕ) (f : ℕ → ℕ) (i : ℕ) → getD (firsts n f) i 0 ≡ pick (ltb i n) (f i) 0
 unfolding firsts
 getD-firsts zero f i = rw (leb·suc-zero i)
 getD-firsts (suc n) f zero = rw (lt-ltb 0 (suc n) (suc-le-suc zero-le))

@@ -18,7 +18,8 @@ use Rattle.decoders.specs.Identity.{identityRanges, identityAt, identityOf}
 use Rattle.decoders.specs.Timing.{timingRanges, timingsAt, timingsOf}
 use Rattle.decoders.specs.Clocks.{clockTableOf}
 use Rattle.decoders.specs.declared.timing.Timings.{Timings}
-use Rattle.decoders.proofs.Refused.{OfRefused, onward-refused, identity-refusals, timings-refusals}
+use Rattle.reading.proofs.Refused.{OfRefused, onward-refused}
+use Rattle.decoders.proofs.Refused.{identity-refusals, timings-refusals}
 use Rattle.rules.specs.Lint.{findingsOf}
 use Rattle.rules.specs.Table.{allIn}
 use Rattle.report.specs.Form.{restOf, findingsIn}

@@ -10,7 +10,7 @@ use Rattle.reading.specs.Said.{refuses}
 use Rattle.reading.specs.Ranges.{reachOf}
 use Rattle.reading.proofs.Reach.{none-missing, cut}
 use Rattle.decoders.specs.Timing.{timingRanges, timingReachOf, timingBytesOf}
-use Rattle.decoders.proofs.Read.{one-more}
+use Rattle.reading.proofs.Copied.{one-more}
 use Rattle.decoders.proofs.timing.timing_bytes.Statement.{statement}
 use Rattle.decoders.proofs.timing.timing_bytes.Tie as tie
 
