@@ -1,7 +1,7 @@
 // Runs what is only run of feeding by pieces, and writes what happened: the bench lines on pieces, the run of the forty certificates,
 // every cut of an image into two, bursts out of order, and a run up to the longest image.
 //
-// A state answers as the whole image does where every field of both records, or the refusal and what it carries, and every finding with
+// A state answers as the whole image does where every field of each record, or the refusal and what it carries, and every finding with
 // all its numbers are the same. Each field is made one number for that, a time and its clocks together.
 ghost use Prim.Native.Nat.{_≤_};
 ghost use lib.ListN.{length};
@@ -12,6 +12,10 @@ use decoders::timing::TimingPair;
 use decoders::timing::Timings;
 use decoders::timing::TimingsAnswer;
 use findings::Findings;
+use manufacturing::DateMode;
+use manufacturing::Manufacturing;
+use manufacturing::ManufacturingAnswer;
+use manufacturing::PartNumber;
 use pieces::Fed;
 use pieces::FeedAnswer;
 use pieces::Pieces;
@@ -20,17 +24,23 @@ use printing::refused;
 use printing::text;
 use reading::Refusal;
 
-// What is answered of an image: both records as numbers, and the findings.
+// What is answered of an image: three records as numbers, the block once more in the strict mode, the part number, and the findings.
 struct Answers {
     identity: [u64; 23],
     timings: [u64; 23],
+    block: [u64; 23],
+    strict: [u64; 23],
+    part: PartNumber,
     findings: Findings,
 }
 
-// How many fields of each record, and how many of the fifteen places for findings, differ between two of those.
+// How many fields of each record, bytes of the part number and places of the fifteen for findings differ between two of those.
 struct Differing {
     identity: usize,
     timings: usize,
+    block: usize,
+    strict: usize,
+    part: usize,
     findings: usize,
 }
 
@@ -48,10 +58,10 @@ fn told(fed: Fed) -> Pieces {
 }
 
 // Every byte is seven more than the one before it, so that no field is as its neighbour or as what stands sixteen bytes further on.
-fn pattern() -> [u8; 512] {
-    let mut image = [0u8; 512];
+fn pattern() -> [u8; 576] {
+    let mut image = [0u8; 576];
     let mut i: usize = 0;
-    while i < 512 {
+    while i < 576 {
         image[i] = ((7 * i + 3) % 256) as u8;
         i += 1;
     }
@@ -59,7 +69,8 @@ fn pattern() -> [u8; 512] {
 }
 
 // The same with a DDR5 identity: a hybrid UDIMM of two 16-bit channels, with 3DS devices of 32 bits. It breaks rules of every code but 5 and 9.
-fn sample() -> [u8; 512] {
+// Its week is no digits, and a space ends its part number.
+fn sample() -> [u8; 576] {
     let mut image = pattern();
     image[0] = 0x30;
     image[1] = 0x21;
@@ -71,6 +82,7 @@ fn sample() -> [u8; 512] {
     image[7] = 0x61;
     image[234] = 0x29;
     image[235] = 0x21;
+    image[550] = 0x20;
     image
 }
 
@@ -198,6 +210,52 @@ fn timing_numbers(answer: TimingsAnswer) -> [u64; 23] {
     }
 }
 
+// The ten numbers of a block behind three zeros.
+fn block_fields(m: Manufacturing) -> [u64; 23] {
+    let maker = m.module_manufacturer;
+    let date = m.manufacturing_date;
+    let dram = m.dram_manufacturer;
+    let mut n = [0u64; 23];
+    n[3] = wide8(maker.bank);
+    n[4] = wide8(maker.code);
+    n[5] = wide8(m.manufacturing_location);
+    n[6] = wide16(date.year);
+    n[7] = wide8(date.week);
+    n[8] = m.serial_number.0 as u64;
+    n[9] = wide8(m.revision_code);
+    n[10] = wide8(dram.bank);
+    n[11] = wide8(dram.code);
+    n[12] = wide8(m.dram_stepping);
+    n
+}
+
+fn block_numbers(answer: ManufacturingAnswer) -> [u64; 23] {
+    match answer {
+        ManufacturingAnswer::Decoded(m) => block_fields(m),
+        ManufacturingAnswer::Refused(why) => refusal_numbers(why),
+    }
+}
+
+// How many bytes of two part numbers differ, and one more where their lengths do.
+fn unequal_parts(a: PartNumber, b: PartNumber) -> usize {
+    let left = a.bytes;
+    let right = b.bytes;
+    let mut count: usize = 0;
+    if a.len != b.len {
+        count = 1;
+    }
+    let mut i: usize = 0;
+    while i < 30 {
+        if left[i] != right[i] {
+            if count < 31 {
+                count += 1;
+            }
+        }
+        i += 1;
+    }
+    count
+}
+
 // How many of the numbers differ.
 fn unequal(a: [u64; 23], b: [u64; 23]) -> usize {
     let mut count: usize = 0;
@@ -248,9 +306,15 @@ fn whole(image: &[u8]) -> Answers {
     let findings = linted.findings;
     let identity = identity_numbers(decoders::identity::decode_identity_and_base(image));
     let timings = timing_numbers(decoders::timing::decode_timings(image));
+    let block = block_numbers(manufacturing::decode_manufacturing(image, DateMode::AsIs));
+    let strict = block_numbers(manufacturing::decode_manufacturing(image, DateMode::Strict));
+    let part = manufacturing::part_number_kept(image);
     Answers {
         identity,
         timings,
+        block,
+        strict,
+        part,
         findings,
     }
 }
@@ -261,9 +325,15 @@ fn asked(state: Pieces) -> Answers {
     let findings = linted.findings;
     let identity = identity_numbers(state.identity());
     let timings = timing_numbers(state.timings());
+    let block = block_numbers(state.manufacturing(DateMode::AsIs));
+    let strict = block_numbers(state.manufacturing(DateMode::Strict));
+    let part = state.part_number();
     Answers {
         identity,
         timings,
+        block,
+        strict,
+        part,
         findings,
     }
 }
@@ -273,11 +343,20 @@ fn beside(a: Answers, b: Answers) -> Differing {
     let b_identity = b.identity;
     let a_timings = a.timings;
     let b_timings = b.timings;
+    let a_block = a.block;
+    let b_block = b.block;
+    let a_strict = a.strict;
+    let b_strict = b.strict;
+    let a_part = a.part;
+    let b_part = b.part;
     let a_findings = a.findings;
     let b_findings = b.findings;
     Differing {
         identity: unequal(a_identity, b_identity),
         timings: unequal(a_timings, b_timings),
+        block: unequal(a_block, b_block),
+        strict: unequal(a_strict, b_strict),
+        part: unequal_parts(a_part, b_part),
         findings: unequal_findings(a_findings, b_findings),
     }
 }
@@ -291,6 +370,15 @@ fn same(a: Answers, b: Answers) -> bool {
         return false;
     }
     if d.timings != 0 {
+        return false;
+    }
+    if d.block != 0 {
+        return false;
+    }
+    if d.strict != 0 {
+        return false;
+    }
+    if d.part != 0 {
         return false;
     }
     d.findings == 0
@@ -321,10 +409,10 @@ fn forty(image: &[u8], twice: usize) -> Pieces {
 }
 
 // What the station made of the same bursts: each laid behind the last, so that all that follows lies sixteen bytes too far on.
-fn by_arrival(image: [u8; 512], twice: usize) -> [u8; 512] {
+fn by_arrival(image: [u8; 576], twice: usize) -> [u8; 576] {
     let mut shifted = image;
     let mut i: usize = 16;
-    while i < 512 {
+    while i < 576 {
         if twice < i - 15 {
             shifted[i] = image[i - 16];
         }
@@ -334,7 +422,7 @@ fn by_arrival(image: [u8; 512], twice: usize) -> [u8; 512] {
 }
 
 // The run of the forty certificates: the state answers as the whole image, and the image as it was taken by arrival does not.
-fn certificates(image: [u8; 512], twice: usize) {
+fn certificates(image: [u8; 576], twice: usize) {
     text(b"forty, the burst at");
     number(twice);
     text(b" twice:");
@@ -347,6 +435,10 @@ fn certificates(image: [u8; 512], twice: usize) {
     text(b" of 17 identity fields,");
     number(d.timings);
     text(b" of 20 timings,");
+    number(d.block);
+    text(b" of 10 numbers of the block,");
+    number(d.part);
+    text(b" of the part number,");
     number(d.findings);
     text(b" findings\n");
 }
@@ -380,7 +472,7 @@ fn cuts(image: &[u8], answers: Answers) -> usize {
 // Sixteen bytes taken, then offset 0 again.
 fn bench(image: &[u8]) {
     text(b"bench");
-    if image.len() < 512 {
+    if image.len() < 576 {
         return;
     }
     let a = told(Pieces::fresh().feed(0, &image[0..16]));
@@ -392,7 +484,7 @@ fn bench(image: &[u8]) {
 // Bursts that come early are refused, and taken when their turn has come.
 fn order(image: &[u8]) {
     text(b"order");
-    if image.len() < 512 {
+    if image.len() < 576 {
         return;
     }
     let early = told(Pieces::fresh().feed(16, &image[16..32]));
@@ -401,12 +493,12 @@ fn order(image: &[u8]) {
 }
 
 fn rest(first: Pieces, image: &[u8]) {
-    if image.len() < 512 {
+    if image.len() < 576 {
         return;
     }
     let early = told(first.feed(32, &image[32..48]));
     let second = told(early.feed(16, &image[16..32]));
-    let last = told(second.feed(32, &image[32..512]));
+    let last = told(second.feed(32, &image[32..576]));
     verdict(same(asked(last), whole(image)));
 }
 
@@ -414,14 +506,17 @@ fn rest(first: Pieces, image: &[u8]) {
 fn longest(image: &[u8]) {
     text(b"longest");
     let a = told(Pieces::fresh().feed(0, image));
-    let b = told(a.feed(512, image));
-    let c = told(b.feed(1024, image));
-    let d = told(c.feed(1536, image));
+    if image.len() < 576 {
+        return;
+    }
+    let b = told(a.feed(576, image));
+    let c = told(b.feed(1152, image));
+    let d = told(c.feed(1728, &image[0..320]));
     ends(d, image);
 }
 
 fn ends(full: Pieces, image: &[u8]) {
-    if image.len() < 512 {
+    if image.len() < 576 {
         return;
     }
     let empty = told(full.feed(2048, &image[0..0]));
@@ -432,7 +527,7 @@ fn ends(full: Pieces, image: &[u8]) {
 // An image that is still short answers as a short image.
 fn short(image: &[u8]) {
     text(b"short");
-    if image.len() < 512 {
+    if image.len() < 576 {
         return;
     }
     let part = &image[0..100];
@@ -450,6 +545,13 @@ fn about(image: &[u8]) {
     number(alike(image, 1));
     text(b", sixteen apart alike");
     number(alike(image, 16));
+    text(b"\nblock: refused in the strict mode with");
+    let answers = whole(image);
+    let strict = answers.strict;
+    number(strict[0] as usize);
+    text(b", bytes of its part number");
+    let part = answers.part;
+    number(part.len);
     text(b"\n");
 }
 

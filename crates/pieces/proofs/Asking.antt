@@ -16,6 +16,10 @@ use Rattle.reading.proofs.Clip.{within}
 use Rattle.decoders.specs.Identity.{identityRanges, identityOf}
 use Rattle.decoders.specs.Timing.{timingRanges, timingsOf}
 use Rattle.decoders.proofs.Reach.{identity-reach, timings-reach}
+use Rattle.manufacturing.specs.Block.{manufacturingRanges, manufacturingOf}
+use Rattle.manufacturing.specs.Part.{partOf, partKeptOf}
+use Rattle.manufacturing.specs.declared.DateMode.{DateMode}
+use Rattle.manufacturing.proofs.Reach.{manufacturing-reach, part-reach, part-kept-reach}
 use Rattle.findings.specs.Hold.{holding}
 use Rattle.rules.specs.Lint.{findingsOf, lintOf}
 use Rattle.rules.proofs.Reach.{lint-reach}
@@ -69,8 +73,20 @@ module _ (cs : List Call) where
   unfolding timingsOf
   run-timings = asked-run (within-more (reachOf timingRanges) keptBytes (omega arith) timings-reach) cs
 
+  pub run-manufacturing : (mode : DateMode) → manufacturingOf mode (keptOf (run cs)) ≡ manufacturingOf mode (image cs)
+  unfolding manufacturingOf
+  run-manufacturing mode = asked-run (within-more (reachOf manufacturingRanges) keptBytes (omega arith) (manufacturing-reach mode)) cs
+
+  pub run-part : partOf (keptOf (run cs)) ≡ partOf (image cs)
+  unfolding partOf
+  run-part = asked-run (within-more (reachOf manufacturingRanges) keptBytes (omega arith) part-reach) cs
+
+  pub run-part-kept : partKeptOf (keptOf (run cs)) ≡ partKeptOf (image cs)
+  unfolding partKeptOf
+  run-part-kept = asked-run (within-more (reachOf manufacturingRanges) keptBytes (omega arith) part-kept-reach) cs
+
   pub run-findings : findingsOf (keptOf (run cs)) ≡ findingsOf (image cs)
-  run-findings = asked-run lint-reach cs
+  run-findings = asked-run (within-more 510 keptBytes (omega arith) lint-reach) cs
 
   pub run-lint : lintOf (keptOf (run cs)) ≡ lintOf (image cs)
   run-lint i = record { identity = run-identity i; timings = run-timings i; findings = holding (run-findings i) }

@@ -13,7 +13,7 @@ use Rattle.pieces.specs.declared.Fed.{Fed}
 
 -- how many of an image's first bytes are kept, and the most bytes that it has
 abbrev pub keptBytes : ℕ
-keptBytes = 510
+keptBytes = 555
 
 abbrev pub longest : ℕ
 longest = 2048

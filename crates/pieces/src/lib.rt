@@ -7,12 +7,17 @@ ghost use Rattle.reading.specs.Lent.{listed};
 ghost use Rattle.decoders.specs.Answers.{identitySaid, timingsSaid};
 ghost use Rattle.decoders.specs.Identity.{identityOf};
 ghost use Rattle.decoders.specs.Timing.{timingsOf};
+ghost use Rattle.manufacturing.specs.Block.{manufacturingSaid, manufacturingOf};
+ghost use Rattle.manufacturing.specs.Part.{partKeptOf};
 ghost use Rattle.rules.specs.Lint.{lintSaid, lintOf, lintAnswerSaid, lintAnswerOf, findingsOf};
 ghost use Rattle.pieces.specs.Fed.{freshPieces, overlaid, feedSaid, fedSaid, acceptedAt, fedBy, keptOf};
 ghost use Rattle.pieces.specs.Laying.{withEight};
 use decoders::identity::IdentityAnswer;
 use decoders::timing::TimingsAnswer;
 use findings::Finding;
+use manufacturing::DateMode;
+use manufacturing::ManufacturingAnswer;
+use manufacturing::PartNumber;
 use reading::Refusal;
 use rules::LintAnswer;
 use rules::Linted;
@@ -21,7 +26,7 @@ use rules::Linted;
 pub const LONGEST: usize = 2048;
 
 // How many of its first bytes are kept: all that any definition looks at.
-pub const KEPT: usize = 510;
+pub const KEPT: usize = 555;
 
 // The bytes kept, 0 where none has arrived yet, and the count of bytes taken.
 pub struct Pieces {
@@ -94,6 +99,21 @@ impl Pieces {
     {
         let kept = self.kept;
         decoders::timing::decode_timings(arrived(&kept, self.taken))
+    }
+
+    pub fn manufacturing(self, mode: DateMode) -> ManufacturingAnswer
+        ensures { λ r. ⌜ manufacturingSaid r ≡ manufacturingOf mode (keptOf self) ⌝ }
+    {
+        let kept = self.kept;
+        manufacturing::decode_manufacturing(arrived(&kept, self.taken), mode)
+    }
+
+    // By value, since the state is taken by value.
+    pub fn part_number(self) -> PartNumber
+        ensures { λ r. ⌜ r ≡ partKeptOf (keptOf self) ⌝ }
+    {
+        let kept = self.kept;
+        manufacturing::part_number_kept(arrived(&kept, self.taken))
     }
 
     pub fn lint_image(self) -> Linted
