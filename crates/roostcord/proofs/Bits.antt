@@ -20,13 +20,17 @@ use Rattle.decoders.specs.Clocks.{clockTableOf}
 use Rattle.decoders.specs.declared.timing.Timings.{Timings}
 use Rattle.reading.proofs.Refused.{OfRefused, onward-refused}
 use Rattle.decoders.proofs.Refused.{identity-refusals, timings-refusals}
+use Rattle.manufacturing.specs.Block.{manufacturingRanges, manufacturingAt, manufacturingOf}
+use Rattle.manufacturing.specs.declared.DateMode.{DateMode}
+use Rattle.manufacturing.specs.declared.DateMode.the-variants.{AsIs}
+use Rattle.manufacturing.proofs.Refused.{manufacturing-refusals}
 use Rattle.rules.specs.Lint.{findingsOf}
 use Rattle.rules.specs.Table.{allIn}
 use Rattle.report.specs.Form.{restOf, findingsIn}
 use Rattle.report.specs.Read.{lengthIn, contentOf}
 use Rattle.report.specs.Write.{lintReportOf}
 use Rattle.pieces.specs.Fed.{keptBytes, acceptedAt, longest}
-use Rattle.roostcord.specs.Numbers.{identityList, timingsList, casNumbers, clocksList, reportList, listedIn}
+use Rattle.roostcord.specs.Numbers.{identityList, timingsList, casNumbers, clocksList, modeOf, manufacturingList, partList, reportList, listedIn}
 use Rattle.roostcord.specs.Word.{refusalWord}
 use Rattle.roostcord.specs.State.{short, countIn, arrivedIn, asked, freshIn, feedIn, takenIn}
 use Rattle.roostcord.proofs.Once.{InBits, word-once}
@@ -54,6 +58,10 @@ identity-fits v h =
 
 timings-fits : (v : View) → Fits (timingsAt v)
 timings-fits v = timings-refusals Small v (λ i e. (omega (arith, named-before timingRanges v i e), omega arith))
+
+block-fits : (mode : DateMode) (v : View) → Fits (manufacturingAt mode v)
+block-fits mode v =
+    manufacturing-refusals mode v Small (λ i e. (omega (arith, named-before manufacturingRanges v i e), omega arith)) (λ e d. plain)
 
 table-fits : (t : Timings) → Fits (clockTableOf t)
 unfolding clockTableOf
@@ -99,6 +107,15 @@ module _ (s : List ℕ) (room : ℕ) where
   pub clocks-bits : Fits (listedIn 9 (clocksList s) room)
   unfolding clocksList timingsOf
   clocks-bits = listed-fits 9 _ room (on-fits (timingsOf s) _ (timings-fits (view s)) (λ t. on-fits (clockTableOf t) _ (table-fits t) (λ c. tt)))
+
+  pub manufacturing-bits : (strict : ℕ) → Fits (listedIn 11 (manufacturingList strict s) room)
+  unfolding manufacturingList manufacturingOf
+  manufacturing-bits strict =
+      listed-fits 11 _ room (on-fits (manufacturingOf (modeOf strict) s) _ (block-fits (modeOf strict) (view s)) (λ m. tt))
+
+  pub part-bits : Fits (listedIn 30 (partList s) room)
+  unfolding partList manufacturingOf
+  part-bits = listed-fits 30 _ room (on-fits (manufacturingOf AsIs s) _ (block-fits AsIs (view s)) (λ m. tt))
 
   pub report-bits : Fits (listedIn 91 (reportList s) room)
   unfolding reportList
@@ -152,6 +169,12 @@ module _ (s : List ℕ) where
 
     pub state-clocks-bits : Fits (asked s (listedIn 9 (clocksList (arrivedIn s)) room))
     state-clocks-bits = asked-bits _ (clocks-bits (arrivedIn s) room)
+
+    pub state-manufacturing-bits : (strict : ℕ) → Fits (asked s (listedIn 11 (manufacturingList strict (arrivedIn s)) room))
+    state-manufacturing-bits strict = asked-bits _ (manufacturing-bits (arrivedIn s) room strict)
+
+    pub state-part-bits : Fits (asked s (listedIn 30 (partList (arrivedIn s)) room))
+    state-part-bits = asked-bits _ (part-bits (arrivedIn s) room)
 
 -- ---- a refusal that fits is one of those that no two have one word of
 pub in-bits : {A : Type 0} (said : Said A) (r : Refusal) → Fits said → said ≡ refuses (told r) → InBits r

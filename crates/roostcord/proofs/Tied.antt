@@ -16,10 +16,11 @@ use Rattle.pieces.specs.Fed.{keptBytes, longest, overlaid, Feeding, acceptedAt,
 use Rattle.pieces.specs.Run.{Call, runFrom, run, image, answersFrom, saidFrom}
 use Rattle.pieces.proofs.Accepting.{given, by-answer}
 use Rattle.pieces.proofs.Running.{run-holds, run-says}
-use Rattle.pieces.proofs.Asking.{run-identity, run-timings, run-findings}
+use Rattle.pieces.proofs.Asking.{run-identity, run-timings, run-manufacturing, run-part, run-findings}
 use Rattle.report.specs.Write.{lintReportOf, lintReportAfter}
 use Rattle.roostcord.specs.Word.{wordOf}
-use Rattle.roostcord.specs.Numbers.{identityList, timingsList, casNumbers, clocksList}
+use Rattle.manufacturing.specs.declared.DateMode.the-variants.{AsIs}
+use Rattle.roostcord.specs.Numbers.{identityList, timingsList, casNumbers, clocksList, modeOf, manufacturingList, partList}
 use Rattle.roostcord.specs.State.{stateSize, short, countIn, stateIn, stateBytes, arrivedIn, asked, freshAfter, feedIn, feedAfter, takenIn, fedBytes, saidBytes}
 use Rattle.roostcord.proofs.Answers.{Question, listing, reporting}
 
@@ -167,6 +168,14 @@ module _ (cs : List Call) (s : List ℕ) (h : stateSize ≤ length s) where
   unfolding clocksList
   fed-clocks = ap clocksList fed-arrived ∙ rw (run-timings cs)
 
+  pub fed-manufacturing : (strict : ℕ) → manufacturingList strict (arrivedIn fed) ≡ manufacturingList strict (image cs)
+  unfolding manufacturingList
+  fed-manufacturing strict = ap (manufacturingList strict) fed-arrived ∙ rw (run-manufacturing cs (modeOf strict), run-part cs)
+
+  pub fed-part : partList (arrivedIn fed) ≡ partList (image cs)
+  unfolding partList
+  fed-part = ap partList fed-arrived ∙ rw (run-manufacturing cs AsIs, run-part cs)
+
   pub fed-lint : (room : ℕ) → lintReportOf (arrivedIn fed) room ≡ lintReportOf (image cs) room
   unfolding lintReportOf
   fed-lint room = ap (λ (b : List ℕ). lintReportOf b room) fed-arrived ∙ rw (run-findings cs)
@@ -200,6 +209,12 @@ module _ (cs : List Call) (s : List ℕ) (h : stateSize ≤ length s) where
 
     pub ask-clocks : AsImage (listing 9 clocksList out) out
     ask-clocks = listed-as 9 clocksList out fed-clocks
+
+    pub ask-manufacturing : (strict : ℕ) → AsImage (listing 11 (manufacturingList strict) out) out
+    ask-manufacturing strict = listed-as 11 (manufacturingList strict) out (fed-manufacturing strict)
+
+    pub ask-part : AsImage (listing 30 partList out) out
+    ask-part = listed-as 30 partList out fed-part
 
   pub ask-taken : takenIn fed ≡ gives (length (image cs))
   unfolding takenIn

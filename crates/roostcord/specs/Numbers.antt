@@ -2,7 +2,7 @@
 use Prim.Native.Nat.{ℕ, _/_, _%_}
 use mathlib.Core.Bool.{Bool, true, false}
 use mathlib.Core.List.{List, [], _∷_}
-use lib.Dec.{ltb}
+use lib.Dec.{eqb, ltb}
 use lib.ListN.{length}
 use Rattle.reading.specs.Pick.{pick}
 use Rattle.reading.specs.Said.{Said, gives, refuses, refused, onward}
@@ -12,6 +12,11 @@ use Rattle.decoders.specs.Cas.{casList}
 use Rattle.decoders.specs.Identity.{identityOf}
 use Rattle.decoders.specs.Timing.{timingsOf, rateOf}
 use Rattle.decoders.specs.Clocks.{clockTableOf}
+use Rattle.manufacturing.specs.Block.{manufacturingOf}
+use Rattle.manufacturing.specs.Part.{partOf}
+use Rattle.manufacturing.specs.declared.DateMode.{DateMode}
+use Rattle.manufacturing.specs.declared.DateMode.the-variants.{AsIs, Strict}
+use Rattle.manufacturing.specs.declared.Manufacturing.{Manufacturing}
 use Rattle.findings.specs.declared.Finding.{Finding}
 use Rattle.findings.specs.Same.{severityNumber}
 use Rattle.report.specs.Read.{Content, contentOf}
@@ -77,6 +82,22 @@ timingNumbers t =
 abbrev pub clockNumbers : ClockTable → List ℕ
 clockNumbers c = c .taa ∷ c .trcd ∷ c .trp ∷ c .tras ∷ c .trc ∷ c .twr ∷ c .trfc1 ∷ c .trfc2 ∷ c .trfcsb ∷ []
 
+-- eleven numbers: those of the block, and how many bytes its part number has
+abbrev pub manufacturingNumbers : Manufacturing → (partLength : ℕ) → List ℕ
+manufacturingNumbers m partLength =
+    m .«module_manufacturer» .bank
+    ∷ m .«module_manufacturer» .code
+    ∷ m .«manufacturing_location»
+    ∷ m .«manufacturing_date» .year
+    ∷ m .«manufacturing_date» .week
+    ∷ m .«serial_number» .0
+    ∷ m .«revision_code»
+    ∷ m .«dram_manufacturer» .bank
+    ∷ m .«dram_manufacturer» .code
+    ∷ m .«dram_stepping»
+    ∷ partLength
+    ∷ []
+
 -- a report: its flags, and six numbers for each finding
 abbrev pub findingNumbers : List Finding → List ℕ
 findingNumbers [] = []
@@ -104,6 +125,17 @@ casNumbers s = onward refuses (timingsOf s) (λ t. gives (casList (t .«supporte
 
 unfoldable pub clocksList : List ℕ → Said (List ℕ)
 clocksList s = onward refuses (timingsOf s) (λ t. onward refuses (clockTableOf t) (λ c. gives (clockNumbers c)))
+
+-- 0 asks for the date as it is, any other number in the strict mode
+abbrev pub modeOf : ℕ → DateMode
+modeOf strict = pick (eqb strict 0) AsIs Strict
+
+unfoldable pub manufacturingList : (strict : ℕ) → List ℕ → Said (List ℕ)
+manufacturingList strict s = onward refuses (manufacturingOf (modeOf strict) s) (λ m. gives (manufacturingNumbers m (length (partOf s))))
+
+-- the part number's bytes, or the refusal of the block as it is
+unfoldable pub partList : List ℕ → Said (List ℕ)
+partList s = onward refuses (manufacturingOf AsIs s) (λ m. gives (partOf s))
 
 -- the numbers of a report, or the reader's refusal
 unfoldable pub reportList : List ℕ → Said (List ℕ)

@@ -10,7 +10,7 @@ ghost use Rattle.reading.specs.Lent.{laid};
 ghost use Rattle.decoders.specs.Identity.{wholeOf};
 ghost use Rattle.report.specs.Write.{lintReportOf, lintReportAfter};
 ghost use Rattle.roostcord.specs.Word.{refusalWord, wordOf, libraryVersion};
-ghost use Rattle.roostcord.specs.Numbers.{identityNumbers, timingNumbers, clockNumbers, reportNumbers, identityList, timingsList, casNumbers, clocksList, reportList, listedIn, listAfter};
+ghost use Rattle.roostcord.specs.Numbers.{identityNumbers, timingNumbers, clockNumbers, reportNumbers, identityList, timingsList, casNumbers, clocksList, manufacturingNumbers, modeOf, manufacturingList, partList, reportList, listedIn, listAfter};
 ghost use Rattle.roostcord.specs.State.{stateSize, countIn, arrivedIn, asked, short, freshIn, freshAfter, feedIn, feedAfter, takenIn};
 use decoders::clocks::ClockTable;
 use decoders::clocks::ClockTableAnswer;
@@ -25,6 +25,9 @@ use decoders::timing::CasListAnswer;
 use decoders::timing::TimingReach;
 use decoders::timing::Timings;
 use findings::Findings;
+use manufacturing::DateMode;
+use manufacturing::Manufacturing;
+use manufacturing::ManufacturingAnswer;
 use pieces::FeedAnswer;
 use pieces::KEPT;
 use reading::Refusal;
@@ -39,7 +42,7 @@ const STATE_SIZE: usize = 2 + KEPT;
 pub extern "C" fn roostcord_version() -> u32
     ensures { λ r. ⌜ r ≡ libraryVersion ⌝ }
 {
-    0x010100
+    0x010200
 }
 
 // Lints an image and writes its report: how many bytes.
@@ -174,6 +177,44 @@ pub extern "C" fn roostcord_clocks(image: &[u8], out: &mut [u32]) -> i32
     }
 }
 
+// The manufacturing block of an image: eleven numbers. `strict` 0 takes the date as it is, any other number in the strict mode.
+#[no_mangle]
+pub extern "C" fn roostcord_manufacturing(image: &[u8], strict: u32, out: &mut [u32]) -> i32
+    ensures answer { λ r. ⌜ r ≡ wordOf (listedIn 11 (manufacturingList strict (now (image .entry))) (length (now (out .entry)))) ⌝ }
+    ensures later { λ r. ⌜ now (out .exit) ≡ listAfter 11 (manufacturingList strict (now (image .entry))) (now (out .entry)) ⌝ }
+{
+    if out.len() < 11 {
+        return refusal_word(Refusal::ListTooShort);
+    }
+    match manufacturing::decode_manufacturing(image, mode(strict)) {
+        ManufacturingAnswer::Decoded(m) => {
+            let part = manufacturing::part_number(image);
+            put_manufacturing(m, part.len() as u32, out);
+            11
+        }
+        ManufacturingAnswer::Refused(why) => refusal_word(why),
+    }
+}
+
+// The part number of an image, without the spaces that end it: up to thirty bytes. Where it is refused, the block's call gives the number.
+#[no_mangle]
+pub extern "C" fn roostcord_part_number(image: &[u8], out: &mut [u8]) -> i32
+    ensures answer { λ r. ⌜ r ≡ wordOf (listedIn 30 (partList (now (image .entry))) (length (now (out .entry)))) ⌝ }
+    ensures later { λ r. ⌜ now (out .exit) ≡ listAfter 30 (partList (now (image .entry))) (now (out .entry)) ⌝ }
+{
+    if out.len() < 30 {
+        return refusal_word(Refusal::ListTooShort);
+    }
+    match manufacturing::decode_manufacturing(image, DateMode::AsIs) {
+        ManufacturingAnswer::Decoded(_) => {
+            let part = manufacturing::part_number(image);
+            put_bytes(part, out);
+            count_word(part.len())
+        }
+        ManufacturingAnswer::Refused(why) => refusal_word(why),
+    }
+}
+
 // Makes the first bytes a state that has taken nothing.
 #[no_mangle]
 pub extern "C" fn roostcord_pieces_fresh(state: &mut [u8]) -> i32
@@ -276,6 +317,28 @@ pub extern "C" fn roostcord_pieces_clocks(state: &[u8], out: &mut [u32]) -> i32
         return refusal_word(Refusal::ListTooShort);
     }
     roostcord_clocks(arrived(state), out)
+}
+
+#[no_mangle]
+pub extern "C" fn roostcord_pieces_manufacturing(state: &[u8], strict: u32, out: &mut [u32]) -> i32
+    ensures answer { λ r. ⌜ r ≡ wordOf (asked (now (state .entry)) (listedIn 11 (manufacturingList strict (arrivedIn (now (state .entry)))) (length (now (out .entry))))) ⌝ }
+    ensures later { λ r. ⌜ now (out .exit) ≡ pick (short (now (state .entry))) (now (out .entry)) (listAfter 11 (manufacturingList strict (arrivedIn (now (state .entry)))) (now (out .entry))) ⌝ }
+{
+    if state.len() < STATE_SIZE {
+        return refusal_word(Refusal::ListTooShort);
+    }
+    roostcord_manufacturing(arrived(state), strict, out)
+}
+
+#[no_mangle]
+pub extern "C" fn roostcord_pieces_part_number(state: &[u8], out: &mut [u8]) -> i32
+    ensures answer { λ r. ⌜ r ≡ wordOf (asked (now (state .entry)) (listedIn 30 (partList (arrivedIn (now (state .entry)))) (length (now (out .entry))))) ⌝ }
+    ensures later { λ r. ⌜ now (out .exit) ≡ pick (short (now (state .entry))) (now (out .entry)) (listAfter 30 (partList (arrivedIn (now (state .entry)))) (now (out .entry))) ⌝ }
+{
+    if state.len() < STATE_SIZE {
+        return refusal_word(Refusal::ListTooShort);
+    }
+    roostcord_part_number(arrived(state), out)
 }
 
 // A count as an answer.
@@ -430,6 +493,38 @@ fn put_clocks(c: ClockTable, out: &mut [u32])
     put(&numbers, out);
 }
 
+// The numbers of a manufacturing block, behind them how many bytes its part number has.
+fn put_manufacturing(m: Manufacturing, part_len: u32, out: &mut [u32])
+    requires { ⌜ 11 ≤ length (now out) ⌝ }
+    ensures { λ _. ⌜ now (out .exit) ≡ laid (manufacturingNumbers m «part_len») (now (out .entry)) ⌝ }
+{
+    let numbers = [
+        m.module_manufacturer.bank as u32,
+        m.module_manufacturer.code as u32,
+        m.manufacturing_location as u32,
+        m.manufacturing_date.year as u32,
+        m.manufacturing_date.week as u32,
+        m.serial_number.0,
+        m.revision_code as u32,
+        m.dram_manufacturer.bank as u32,
+        m.dram_manufacturer.code as u32,
+        m.dram_stepping as u32,
+        part_len,
+    ];
+    put(&numbers, out);
+}
+
+// Which mode a caller's number asks for.
+fn mode(strict: u32) -> DateMode
+    ensures { λ r. ⌜ r ≡ modeOf strict ⌝ }
+{
+    if strict == 0 {
+        DateMode::AsIs
+    } else {
+        DateMode::Strict
+    }
+}
+
 // The numbers of a report, laid into a list that has room for the most.
 fn put_report(flags: u8, found: Findings, out: &mut [u32])
     requires { ⌜ (found .count ≤ 15) × (91 ≤ length (now out)) ⌝ }
@@ -460,6 +555,18 @@ fn put(numbers: &[u32], out: &mut [u32])
     let mut i: usize = 0;
     while i < numbers.len() {
         out[i] = numbers[i];
+        i += 1;
+    }
+}
+
+// Bytes likewise. A loop of its own: with a second caller `pieces::lay` would no longer be compiled into the feed of a burst.
+fn put_bytes(bytes: &[u8], out: &mut [u8])
+    requires { ⌜ length (now bytes) ≤ length (now out) ⌝ }
+    ensures { λ _. ⌜ now (out .exit) ≡ laid (now (bytes .entry)) (now (out .entry)) ⌝ }
+{
+    let mut i: usize = 0;
+    while i < bytes.len() {
+        out[i] = bytes[i];
         i += 1;
     }
 }
