@@ -2,7 +2,7 @@
  *
  * Every call comes back with one number, whatever it is lent.
  *
- *   0 or more     It was done. The number counts what was written: bytes of a report, numbers of a list, bytes taken.
+ *   0 or more     It was done. The number counts what was written: bytes of a report or part number, numbers of a list, bytes taken.
  *   below 0       It was refused. Nothing was written: every lent buffer is as it was before the call.
  *
  * A refusal has a number, and some carry one or two values. Three macros take them out of the answer. For example, 16 bytes of an image
@@ -16,6 +16,9 @@
  * What the caller owes, since no library can see it: each pointer leads to that many initialised elements (NULL is fine with a
  * count of 0), a uint32_t or uint16_t pointer is aligned as its type asks, no two lent buffers of one call overlap, and nothing
  * else writes a lent buffer, or reads one that the call writes, while the call runs.
+ *
+ * From 1.1.0 to 1.2.0: ROOSTCORD_STATE_SIZE is 557, where it was 512. A caller that was compiled against 512 gets refusal 4 from every
+ * pieces call until it is compiled anew. Four calls and refusal 13 are new. All other calls answer as they did.
  */
 #ifndef ROOSTCORD_H
 #define ROOSTCORD_H
@@ -26,9 +29,9 @@
 /*---- the version of this header ----*/
 
 #define ROOSTCORD_VERSION_MAJOR 1
-#define ROOSTCORD_VERSION_MINOR 1
+#define ROOSTCORD_VERSION_MINOR 2
 #define ROOSTCORD_VERSION_PATCH 0
-/* as one number, which grows with every version, and as text: "1.1.0" */
+/* as one number, which grows with every version, and as text: "1.2.0" */
 #define ROOSTCORD_VERSION (ROOSTCORD_VERSION_MAJOR * 65536 + ROOSTCORD_VERSION_MINOR * 256 + ROOSTCORD_VERSION_PATCH)
 #define ROOSTCORD_VERSION_STRING \
   ROOSTCORD_TEXT(ROOSTCORD_VERSION_MAJOR) "." ROOSTCORD_TEXT(ROOSTCORD_VERSION_MINOR) "." ROOSTCORD_TEXT(ROOSTCORD_VERSION_PATCH)
@@ -60,17 +63,18 @@ extern "C" {
 
 /* Refusal numbers. What is not said to carry a value carries none. */
 enum {
-  ROOSTCORD_TRUNCATED = 1,        /* the image lacks a byte that is read; first: the smallest such offset */
-  ROOSTCORD_NOT_DDR5 = 2,         /* byte 2 is not 0x12; first: the byte */
-  ROOSTCORD_UNKNOWN_CODE = 3,     /* a code outside its table; first: the field, ROOSTCORD_FIELD_..; second: the code */
-  ROOSTCORD_LIST_TOO_SHORT = 4,   /* the lent list or state has too few places */
-  ROOSTCORD_WRONG_OFFSET = 5,     /* the piece's offset is not the count taken; first: that count */
-  ROOSTCORD_TOO_LONG = 6,         /* the total would pass 2,048 bytes */
-  ROOSTCORD_ZERO_CLOCK = 7,       /* a clock table with tCKmin 0 */
-  ROOSTCORD_BUFFER_TOO_SMALL = 8, /* the buffer is too small for the report */
-  ROOSTCORD_REPORT_CUT = 9,       /* fewer bytes than the report says it has, or fewer than two */
-  ROOSTCORD_REPORT_VERSION = 10,  /* a report of another version than 1 */
-  ROOSTCORD_REPORT_MALFORMED = 11 /* no report of version 1 */
+  ROOSTCORD_TRUNCATED = 1,         /* the image lacks a byte that is read; first: the smallest such offset */
+  ROOSTCORD_NOT_DDR5 = 2,          /* byte 2 is not 0x12; first: the byte */
+  ROOSTCORD_UNKNOWN_CODE = 3,      /* a code outside its table; first: the field, ROOSTCORD_FIELD_..; second: the code */
+  ROOSTCORD_LIST_TOO_SHORT = 4,    /* the lent list or state has too few places */
+  ROOSTCORD_WRONG_OFFSET = 5,      /* the piece's offset is not the count taken; first: that count */
+  ROOSTCORD_TOO_LONG = 6,          /* the total would pass 2,048 bytes */
+  ROOSTCORD_ZERO_CLOCK = 7,        /* a clock table with tCKmin 0 */
+  ROOSTCORD_BUFFER_TOO_SMALL = 8,  /* the buffer is too small for the report */
+  ROOSTCORD_REPORT_CUT = 9,        /* fewer bytes than the report says it has, or fewer than two */
+  ROOSTCORD_REPORT_VERSION = 10,   /* a report of another version than 1 */
+  ROOSTCORD_REPORT_MALFORMED = 11, /* no report of version 1 */
+  ROOSTCORD_WRONG_DATE = 13        /* strict: a date byte is not two decimal digits, or the week is not 1 to 53 */
 };
 
 /* The fields of refusal 3, in the order in which they are checked. */
@@ -89,14 +93,17 @@ enum {
 /*---- sizes ----*/
 
 enum {
-  ROOSTCORD_IMAGE_MAX = 2048, /* of an image that is fed in pieces; the whole-image calls take any length */
-  ROOSTCORD_STATE_SIZE = 512,
+  ROOSTCORD_IMAGE_MAX = 2048,     /* of an image that is fed in pieces; the whole-image calls take any length */
+  ROOSTCORD_STATE_SIZE = 557,     /* the count in two bytes, and the first 555 of the image; 512 before 1.2.0 */
   ROOSTCORD_IDENTITY_NEEDS = 236, /* bytes of an image, up to the last that is read; a shorter one is refused 1 */
   ROOSTCORD_TIMINGS_NEED = 94,
+  ROOSTCORD_MANUFACTURING_NEEDS = 555,
   ROOSTCORD_IDENTITY_COUNT = 18, /* numbers of a list */
   ROOSTCORD_TIMINGS_COUNT = 30,
   ROOSTCORD_CLOCKS_COUNT = 9,
+  ROOSTCORD_MANUFACTURING_COUNT = 11,
   ROOSTCORD_CAS_LATENCIES_MAX = 40,
+  ROOSTCORD_PART_NUMBER_MAX = 30, /* bytes of a part number */
   ROOSTCORD_FINDINGS_MAX = 15,
   ROOSTCORD_FINDING_COUNT = 6,   /* numbers of a finding */
   ROOSTCORD_REPORT_NUMBERS = 91, /* the flags and six numbers for each of fifteen findings: no report has more */
@@ -236,6 +243,25 @@ enum {
   ROOSTCORD_CLOCKS_TRFCSB
 };
 
+/* Places in the list of roostcord_manufacturing, with the bytes that they are read from. A bank is the low seven bits of its byte plus 1,
+ * a code the low seven. A decimal byte is ten times its high four bits plus its low four: 0x26 is 26, and 0xFF is 165. */
+enum {
+  ROOSTCORD_MANUFACTURING_MODULE_BANK, /* 512 */
+  ROOSTCORD_MANUFACTURING_MODULE_CODE, /* 513 */
+  ROOSTCORD_MANUFACTURING_PLACE,       /* 514 */
+  ROOSTCORD_MANUFACTURING_YEAR,        /* 515, decimal, plus 2000 */
+  ROOSTCORD_MANUFACTURING_WEEK,        /* 516, decimal */
+  ROOSTCORD_MANUFACTURING_SERIAL,      /* 517 to 520, the first the highest */
+  ROOSTCORD_MANUFACTURING_REVISION,    /* 551 */
+  ROOSTCORD_MANUFACTURING_DRAM_BANK,   /* 552 */
+  ROOSTCORD_MANUFACTURING_DRAM_CODE,   /* 553 */
+  ROOSTCORD_MANUFACTURING_STEPPING,    /* 554, of the DRAM */
+  ROOSTCORD_MANUFACTURING_PART_LENGTH  /* 521 to 550: bytes of the part number, without the spaces that end it */
+};
+
+/* How a date is taken: as it is, or refused where it is none. */
+enum { ROOSTCORD_DATE_AS_IS = 0, ROOSTCORD_DATE_STRICT = 1 };
+
 /*---- the calls: what each does, what it answers, and when it refuses, in that order ----*/
 
 /* Tells the version of the library that is linked.
@@ -278,9 +304,23 @@ ROOSTCORD_MUST_USE int32_t roostcord_cas_latencies(const uint8_t *image, size_t 
  * Refuses 4 where out_len is less than that; 1 as roostcord_timings does; 7. */
 ROOSTCORD_MUST_USE int32_t roostcord_clocks(const uint8_t *image, size_t image_len, uint32_t *out, size_t out_len);
 
+/* Decodes the manufacturing block of an image into a list of numbers; ROOSTCORD_MANUFACTURING_.. are their places. No other byte is read,
+ * so an image whose identity is refused may have a block. `strict` is ROOSTCORD_DATE_AS_IS or ROOSTCORD_DATE_STRICT; any other number
+ * counts as the latter.
+ * Answers ROOSTCORD_MANUFACTURING_COUNT.
+ * Refuses 4 where out_len is less than that; 1 where one of bytes 512 to 554 is missing, which is below ROOSTCORD_MANUFACTURING_NEEDS
+ * bytes; 13, and that only if it is strict. */
+ROOSTCORD_MUST_USE int32_t roostcord_manufacturing(const uint8_t *image, size_t image_len, uint32_t strict, uint32_t *out, size_t out_len);
+
+/* Writes the part number of an image: bytes 521 to 550 without the spaces (0x20) that end them. Nothing else is taken away, so any byte
+ * may be in it, 0 too; and no 0 is put behind it.
+ * Answers how many bytes it has, 0 to ROOSTCORD_PART_NUMBER_MAX.
+ * Refuses 4 where out_len is less than ROOSTCORD_PART_NUMBER_MAX, however few there are; 1 as roostcord_manufacturing does. */
+ROOSTCORD_MUST_USE int32_t roostcord_part_number(const uint8_t *image, size_t image_len, uint8_t *out, size_t out_len);
+
 /*---- an image that arrives in pieces ----
  *
- * The state is the first 512 bytes of `state`; the caller keeps it between calls and writes it by these calls alone. A piece goes with
+ * The state is the first 557 bytes of `state`; the caller keeps it between calls and writes it by these calls alone. A piece goes with
  * the offset at which its bytes were read. It is taken exactly when that is the count of bytes taken and the total stays within 2,048.
  * After refusal 5, read again at the count that it carries: to send the same bytes with that offset would put them where they do not
  * belong, and no library can see it. */
@@ -307,6 +347,9 @@ ROOSTCORD_MUST_USE int32_t roostcord_pieces_identity(const uint8_t *state, size_
 ROOSTCORD_MUST_USE int32_t roostcord_pieces_timings(const uint8_t *state, size_t state_len, uint32_t *out, size_t out_len);
 ROOSTCORD_MUST_USE int32_t roostcord_pieces_cas_latencies(const uint8_t *state, size_t state_len, uint16_t *out, size_t out_len);
 ROOSTCORD_MUST_USE int32_t roostcord_pieces_clocks(const uint8_t *state, size_t state_len, uint32_t *out, size_t out_len);
+ROOSTCORD_MUST_USE int32_t roostcord_pieces_manufacturing(const uint8_t *state, size_t state_len, uint32_t strict, uint32_t *out,
+                                                          size_t out_len);
+ROOSTCORD_MUST_USE int32_t roostcord_pieces_part_number(const uint8_t *state, size_t state_len, uint8_t *out, size_t out_len);
 
 #ifdef __cplusplus
 }
