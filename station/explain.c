@@ -46,6 +46,10 @@ const char *explain_refusal(int32_t answer, int needs, char text[SENTENCE_MAX]) 
     case ROOSTCORD_REPORT_MALFORMED:
       plain = "Its length, flags (byte 3), count (byte 4) or a finding are not as version 1 has them: lint the image again.";
       break;
+    case ROOSTCORD_WRONG_DATE:
+      plain = "Bytes 515 (year) and 516 (week) are no date: each must be two decimal digits, and the week 1 to 53. Read the module again; "
+              "if they come the same, print no label. Without --strict-date they are told as they are.";
+      break;
     default: break;
   }
   snprintf(text, SENTENCE_MAX, "%s", plain);

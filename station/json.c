@@ -87,17 +87,23 @@ static bool put_if_refused(const char *key, int32_t answer, int needs, const str
   return true;
 }
 
+/* The numbers of a record, by their names. */
+static void put_fields(const struct record_field *fields, int count, const uint32_t *numbers) {
+  for (int i = 0; i < count; i++) {
+    const struct record_field *field = &fields[i];
+    if (i > 0) putchar(',');
+    if (field->kind == YES_OR_NO) printf("\"%s\":%s", field->key, numbers[i] ? "true" : "false");
+    else if (field->kind == SERIAL) printf("\"%s\":\"%08lX\"", field->key, (unsigned long)numbers[i]);
+    else printf("\"%s\":%lu", field->key, (unsigned long)numbers[i]);
+    if (field->kind == MODULE) put_text("module_type_name", module_name(numbers[i]));
+    if (field->kind == PACKAGE) put_text("package_name", package_name(numbers[i]));
+  }
+}
+
 static void put_identity(const struct records *r, const struct options *options) {
   if (put_if_refused("identity", r->identity_answer, ROOSTCORD_IDENTITY_NEEDS, options)) return;
   printf(",\"identity\":{");
-  for (int i = 0; i < ROOSTCORD_IDENTITY_COUNT; i++) {
-    const struct identity_field *field = &identity_fields[i];
-    if (i > 0) putchar(',');
-    if (field->kind == YES_OR_NO) printf("\"%s\":%s", field->key, r->identity[i] ? "true" : "false");
-    else printf("\"%s\":%lu", field->key, (unsigned long)r->identity[i]);
-    if (field->kind == MODULE) put_text("module_type_name", module_name(r->identity[i]));
-    if (field->kind == PACKAGE) put_text("package_name", package_name(r->identity[i]));
-  }
+  put_fields(identity_fields, ROOSTCORD_IDENTITY_COUNT, r->identity);
   putchar('}');
 }
 
@@ -126,6 +132,25 @@ static void put_cas(const struct records *r, const struct options *options) {
   printf(",\"cas_latencies\":[");
   for (int32_t i = 0; i < r->cas_answer; i++) printf("%s%d", i > 0 ? "," : "", r->cas[i]);
   putchar(']');
+}
+
+/* The part number: as text where all of it is printable, and always in hex. */
+static void put_part(const struct records *r) {
+  char text[ROOSTCORD_PART_NUMBER_MAX + 1] = "";
+  int32_t whole = 0;
+  for (; whole < r->part_answer && printable(r->part[whole]); whole++) text[whole] = (char)r->part[whole];
+  if (whole == r->part_answer) put_text("part_number", text);
+  printf(",\"part_number_hex\":\"");
+  for (int32_t i = 0; i < r->part_answer; i++) printf("%02x", (unsigned)r->part[i]);
+  putchar('"');
+}
+
+static void put_label(const struct records *r, const struct options *options) {
+  if (put_if_refused("manufacturing", r->manufacturing_answer, ROOSTCORD_MANUFACTURING_NEEDS, options)) return;
+  printf(",\"manufacturing\":{");
+  put_fields(label_fields, LABEL_NUMBERS, r->manufacturing);
+  put_part(r);
+  putchar('}');
 }
 
 static void put_finding(const uint32_t *f, const struct options *options) {
@@ -167,6 +192,7 @@ void json_image(const struct subject *subject, const struct records *r, const st
   put_clocks(r, options);
   put_cas(r, options);
   put_findings(&r->findings, options);
+  if (options->label) put_label(r, options);
   printf("}\n");
 }
 

@@ -12,7 +12,7 @@ struct subject {
   unsigned long refused_bursts; /* bursts of a log that were refused for their offset */
 };
 
-/* An image, with all of its records. */
+/* An image, with all of its records; the label where it is asked for. */
 void json_image(const struct subject *subject, const struct records *records, const struct options *options);
 
 /* An image that the library did not take. */

@@ -3,7 +3,7 @@
 
 #define LENGTH(table) (sizeof(table) / sizeof *(table))
 
-const struct identity_field identity_fields[ROOSTCORD_IDENTITY_COUNT] = {
+const struct record_field identity_fields[ROOSTCORD_IDENTITY_COUNT] = {
     [ROOSTCORD_IDENTITY_SPD_BYTES] = {"spd_bytes", "SPD bytes", COUNT},
     [ROOSTCORD_IDENTITY_REVISION_MAJOR] = {"revision_major", "revision, major", COUNT},
     [ROOSTCORD_IDENTITY_REVISION_MINOR] = {"revision_minor", "revision, minor", COUNT},
@@ -22,6 +22,19 @@ const struct identity_field identity_fields[ROOSTCORD_IDENTITY_COUNT] = {
     [ROOSTCORD_IDENTITY_ASYMMETRIC] = {"asymmetric", "asymmetric", YES_OR_NO},
     [ROOSTCORD_IDENTITY_CHANNELS] = {"channels", "channels", COUNT},
     [ROOSTCORD_IDENTITY_BUS_WIDTH] = {"bus_width", "bus width", COUNT},
+};
+
+const struct record_field label_fields[LABEL_NUMBERS] = {
+    [ROOSTCORD_MANUFACTURING_MODULE_BANK] = {"module_maker_bank", "module maker, bank", COUNT},
+    [ROOSTCORD_MANUFACTURING_MODULE_CODE] = {"module_maker_code", "module maker, code", COUNT},
+    [ROOSTCORD_MANUFACTURING_PLACE] = {"place", "place", COUNT},
+    [ROOSTCORD_MANUFACTURING_YEAR] = {"year", "year", COUNT},
+    [ROOSTCORD_MANUFACTURING_WEEK] = {"week", "week", COUNT},
+    [ROOSTCORD_MANUFACTURING_SERIAL] = {"serial_number", "serial number", SERIAL},
+    [ROOSTCORD_MANUFACTURING_REVISION] = {"module_revision", "module revision", COUNT},
+    [ROOSTCORD_MANUFACTURING_DRAM_BANK] = {"dram_maker_bank", "DRAM maker, bank", COUNT},
+    [ROOSTCORD_MANUFACTURING_DRAM_CODE] = {"dram_maker_code", "DRAM maker, code", COUNT},
+    [ROOSTCORD_MANUFACTURING_STEPPING] = {"dram_stepping", "DRAM stepping", COUNT},
 };
 
 const char *const clock_names[ROOSTCORD_CLOCKS_COUNT] = {
@@ -68,6 +81,7 @@ static const char *const refusals[] = {
     [ROOSTCORD_REPORT_CUT] = "report-cut",
     [ROOSTCORD_REPORT_VERSION] = "report-version",
     [ROOSTCORD_REPORT_MALFORMED] = "report-malformed",
+    [ROOSTCORD_WRONG_DATE] = "wrong-date",
 };
 
 static const char *const severities[] = {
@@ -119,3 +133,5 @@ const char *sub_name(uint32_t code, uint32_t sub) {
     default: return NULL;
   }
 }
+
+bool printable(uint8_t byte) { return byte >= ' ' && byte <= '~'; }

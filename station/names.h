@@ -4,6 +4,8 @@
 
 #include "roostcord.h"
 
+#include <stdbool.h>
+
 enum { RULE_NUMBERS = ROOSTCORD_FINDING_COUNT - ROOSTCORD_FINDING_FIRST };
 
 /* A code of a finding: its name, and the names of the numbers that it lists; NULL for those that it does not. */
@@ -13,10 +15,10 @@ struct rule {
 };
 
 /* What the numbers of a record are. */
-enum kind { COUNT, YES_OR_NO, MODULE, PACKAGE };
+enum kind { COUNT, YES_OR_NO, MODULE, PACKAGE, SERIAL };
 
-/* A number of the identity: its name in JSON, and in the listing. */
-struct identity_field {
+/* A number of the identity or of the label: its name in JSON, and in the listing. */
+struct record_field {
   const char *key;
   const char *label;
   enum kind kind;
@@ -32,7 +34,11 @@ struct code_field {
 /* A time that has its own least count of clocks. */
 enum { PAIRS = (ROOSTCORD_TIMINGS_DATA_RATE - ROOSTCORD_TIMINGS_TRRD_L) / 2 };
 
-extern const struct identity_field identity_fields[ROOSTCORD_IDENTITY_COUNT];
+/* The last number of the label is the length of the part number, which is told by its bytes. */
+enum { LABEL_NUMBERS = ROOSTCORD_MANUFACTURING_PART_LENGTH };
+
+extern const struct record_field identity_fields[ROOSTCORD_IDENTITY_COUNT];
+extern const struct record_field label_fields[LABEL_NUMBERS];
 extern const char *const clock_names[ROOSTCORD_CLOCKS_COUNT]; /* the times from ROOSTCORD_TIMINGS_TAA on */
 extern const char *const pair_names[PAIRS];                   /* and those from ROOSTCORD_TIMINGS_TRRD_L on */
 
@@ -44,5 +50,8 @@ const char *severity_name(uint32_t severity);
 const char *sub_name(uint32_t code, uint32_t sub); /* NULL for a code without subs */
 const char *module_name(uint32_t code);
 const char *package_name(uint32_t package);
+
+/* Whether a byte is printable ASCII, and so can stand in a line as it is. */
+bool printable(uint8_t byte);
 
 #endif

@@ -21,8 +21,10 @@ static const char usage[] =
     "  -s, --strict            let every finding count, not errors alone\n"
     "  -i, --identity          print the identity as well\n"
     "  -t, --timings           print the timings and the clock table as well\n"
+    "  -m, --label             print the manufacturing block as well: makers, place, date, serial number and part number\n"
+    "  -d, --strict-date       with --label: refuse a date that is not decimal digits, or whose week is not 1 to 53\n"
     "  -e, --explain           say after each refusal and finding which bytes it is about, and what to do\n"
-    "  -j, --json              print a JSON object on a line for each image, with all of the above\n"
+    "  -j, --json              print a JSON object on a line for each image, with identity and timings; the label only with --label\n"
     "  -o, --report FILE       write the report of the one image to FILE, in the library's form\n"
     "  -R, --read-report FILE  list a report that was written so; - is standard input\n"
     "  -V, --version           the version\n"
@@ -57,9 +59,10 @@ static const struct option longs[] = {
     {"burst", required_argument, NULL, 'b'}, {"bursts", no_argument, NULL, 'l'},       {"strict", no_argument, NULL, 's'},
     {"identity", no_argument, NULL, 'i'},    {"timings", no_argument, NULL, 't'},      {"explain", no_argument, NULL, 'e'},
     {"json", no_argument, NULL, 'j'},        {"report", required_argument, NULL, 'o'}, {"read-report", required_argument, NULL, 'R'},
-    {"version", no_argument, NULL, 'V'},     {"help", no_argument, NULL, 'h'},         {NULL, 0, NULL, 0}};
+    {"label", no_argument, NULL, 'm'},       {"strict-date", no_argument, NULL, 'd'},  {"version", no_argument, NULL, 'V'},
+    {"help", no_argument, NULL, 'h'},        {NULL, 0, NULL, 0}};
 
-static const char shorts[] = ":b:lsitejo:R:Vh"; /* the colon in front: a missing value is told from an unknown option */
+static const char shorts[] = ":b:lsitmdejo:R:Vh"; /* the colon in front: a missing value is told from an unknown option */
 
 static bool misused(const char *what, const char *word) {
   fprintf(stderr, "station: %s%s (station --help says how)\n", what, word);
@@ -98,6 +101,8 @@ static bool take_one(int letter, const char *word, struct options *options) {
     case 's': options->strict = true; return true;
     case 'i': options->identity = true; return true;
     case 't': options->timings = true; return true;
+    case 'm': options->label = true; return true;
+    case 'd': options->strict_date = true; return true;
     case 'e': options->explain = true; return true;
     case 'j': options->json = true; return true;
     case 'o': return take_name(&options->report, "--report");
@@ -110,8 +115,10 @@ static bool take_one(int letter, const char *word, struct options *options) {
 /* Whether the options go together. */
 static bool agree(const struct options *o) {
   if (o->bursts && o->burst) return misused("the bursts of a log have lengths of their own, so --burst does not go with --bursts", "");
-  if (o->read_report && (o->burst || o->bursts || o->identity || o->timings || o->report))
-    return misused("a stored report has no bursts, identity or timings: only --strict, --explain and --json go with --read-report", "");
+  if (o->read_report && (o->burst || o->bursts || o->identity || o->timings || o->label || o->strict_date || o->report))
+    return misused("a stored report has no bursts, identity, timings or label: only --strict, --explain and --json go with --read-report",
+                   "");
+  if (o->strict_date && !o->label) return misused("--strict-date is about the date of the label: give --label as well", "");
   if (o->read_report && o->count > 0) return misused("no image goes with --read-report, but there is ", o->names[0]);
   if (!o->read_report && o->count == 0) return misused("no image named", "");
   if (o->report && o->count > 1) return misused("--report takes the report of one image, and several are named", "");

@@ -7,7 +7,8 @@
 struct options {
   size_t burst; /* bytes that are asked for at a time */
   bool bursts;  /* the names are those of logs */
-  bool strict, identity, timings, json, explain;
+  bool strict, identity, timings, label, json, explain;
+  bool strict_date; /* a date of the label that is none is refused */
   const char *report;      /* the file that a report is written to, or NULL */
   const char *read_report; /* the stored report to list, or NULL */
   char **names;            /* of images, or of logs */

@@ -40,15 +40,17 @@ static void print_findings(const struct findings *findings, const struct options
   printf("findings %lu\n", (unsigned long)count_findings(findings));
 }
 
-static void print_identity(const uint32_t *identity) {
-  for (int i = 0; i < ROOSTCORD_IDENTITY_COUNT; i++) {
-    unsigned long n = identity[i];
-    printf("%s ", identity_fields[i].label);
-    switch (identity_fields[i].kind) {
+/* A line for each number of a record. */
+static void print_fields(const struct record_field *fields, int count, const uint32_t *numbers) {
+  for (int i = 0; i < count; i++) {
+    unsigned long n = numbers[i];
+    printf("%s ", fields[i].label);
+    switch (fields[i].kind) {
       case COUNT: printf("%lu\n", n); break;
       case YES_OR_NO: printf("%s\n", n ? "yes" : "no"); break;
-      case MODULE: printf("%lu %s\n", n, module_name(identity[i])); break;
-      case PACKAGE: printf("%lu %s\n", n, package_name(identity[i])); break;
+      case MODULE: printf("%lu %s\n", n, module_name(numbers[i])); break;
+      case PACKAGE: printf("%lu %s\n", n, package_name(numbers[i])); break;
+      case SERIAL: printf("%08lX\n", n); break;
     }
   }
 }
@@ -73,13 +75,33 @@ static void print_timings(const struct records *r, const struct options *options
   if (options->explain) printf("  %s\n", explain_refusal(r->clocks_answer, ROOSTCORD_TIMINGS_NEED, text));
 }
 
+/* The part number. A backslash is doubled, so that no text can pass for a byte that is told as \xNN. */
+static void print_part(const struct records *r) {
+  printf("part number");
+  if (r->part_answer > 0) printf(" ");
+  for (int32_t i = 0; i < r->part_answer; i++) {
+    if (!printable(r->part[i])) printf("\\x%02X", (unsigned)r->part[i]);
+    else if (r->part[i] == '\\') printf("\\\\");
+    else putchar(r->part[i]);
+  }
+  printf("\n");
+}
+
+static void print_label(const struct records *r, const struct options *options) {
+  print_decoder("manufacturing", r->manufacturing_answer, ROOSTCORD_MANUFACTURING_NEEDS, options);
+  if (ROOSTCORD_REFUSED(r->manufacturing_answer)) return;
+  print_fields(label_fields, LABEL_NUMBERS, r->manufacturing);
+  print_part(r);
+}
+
 void print_image(const struct records *r, const struct options *options) {
   printf("bytes %ld\n", (long)r->bytes);
   print_decoder("identity", r->identity_answer, ROOSTCORD_IDENTITY_NEEDS, options);
   print_decoder("timings", r->timings_answer, ROOSTCORD_TIMINGS_NEED, options);
   print_findings(&r->findings, options);
-  if (options->identity && !ROOSTCORD_REFUSED(r->identity_answer)) print_identity(r->identity);
+  if (options->identity && !ROOSTCORD_REFUSED(r->identity_answer)) print_fields(identity_fields, ROOSTCORD_IDENTITY_COUNT, r->identity);
   if (options->timings && !ROOSTCORD_REFUSED(r->timings_answer)) print_timings(r, options);
+  if (options->label) print_label(r, options);
 }
 
 void print_stored(const struct findings *findings, size_t bytes, const struct options *options) {

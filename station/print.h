@@ -4,7 +4,7 @@
 
 #include "options.h"
 
-/* An image: bytes, decoders and findings; identity and timings where they are asked for. */
+/* An image: bytes, decoders and findings; identity, timings and label where they are asked for. */
 void print_image(const struct records *records, const struct options *options);
 
 /* An image that the library did not take. */

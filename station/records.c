@@ -1,12 +1,15 @@
 /* The questions to the library; records.h says what comes of them. */
 #include "records.h"
 
-void ask_records(const uint8_t state[ROOSTCORD_STATE_SIZE], struct records *r) {
+void ask_records(const uint8_t state[ROOSTCORD_STATE_SIZE], uint32_t date, struct records *r) {
   r->bytes = roostcord_pieces_taken(state, ROOSTCORD_STATE_SIZE);
   r->identity_answer = roostcord_pieces_identity(state, ROOSTCORD_STATE_SIZE, r->identity, ROOSTCORD_IDENTITY_COUNT);
   r->timings_answer = roostcord_pieces_timings(state, ROOSTCORD_STATE_SIZE, r->timings, ROOSTCORD_TIMINGS_COUNT);
   r->clocks_answer = roostcord_pieces_clocks(state, ROOSTCORD_STATE_SIZE, r->clocks, ROOSTCORD_CLOCKS_COUNT);
   r->cas_answer = roostcord_pieces_cas_latencies(state, ROOSTCORD_STATE_SIZE, r->cas, ROOSTCORD_CAS_LATENCIES_MAX);
+  r->manufacturing_answer =
+      roostcord_pieces_manufacturing(state, ROOSTCORD_STATE_SIZE, date, r->manufacturing, ROOSTCORD_MANUFACTURING_COUNT);
+  r->part_answer = roostcord_pieces_part_number(state, ROOSTCORD_STATE_SIZE, r->part, ROOSTCORD_PART_NUMBER_MAX);
   r->report_answer = roostcord_pieces_lint(state, ROOSTCORD_STATE_SIZE, r->report, sizeof r->report);
   r->findings.answer = r->report_answer; /* no report is longer than the buffer, and what is written is read back */
   if (ROOSTCORD_REFUSED(r->report_answer)) return;

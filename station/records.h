@@ -23,17 +23,19 @@ struct findings {
 /* Each record with the library's answer: a list is there where its answer is no refusal. */
 struct records {
   int32_t bytes;
-  int32_t identity_answer, timings_answer, clocks_answer, cas_answer, report_answer;
+  int32_t identity_answer, timings_answer, clocks_answer, cas_answer, manufacturing_answer, part_answer, report_answer;
   uint32_t identity[ROOSTCORD_IDENTITY_COUNT];
   uint32_t timings[ROOSTCORD_TIMINGS_COUNT];
   uint32_t clocks[ROOSTCORD_CLOCKS_COUNT];
   uint16_t cas[ROOSTCORD_CAS_LATENCIES_MAX];
+  uint32_t manufacturing[ROOSTCORD_MANUFACTURING_COUNT];
+  uint8_t part[ROOSTCORD_PART_NUMBER_MAX]; /* its first part_answer bytes */
   uint8_t report[ROOSTCORD_REPORT_MAX];
   struct findings findings;
 };
 
-/* Asks the library all of it about a state. */
-void ask_records(const uint8_t state[ROOSTCORD_STATE_SIZE], struct records *records);
+/* Asks the library all of it about a state, and for the date as ROOSTCORD_DATE_.. says. */
+void ask_records(const uint8_t state[ROOSTCORD_STATE_SIZE], uint32_t date, struct records *records);
 
 /* Whether the findings have another one, from *finding on: NULL at first, then the one that was handed out last. */
 bool next_finding(const struct findings *findings, const uint32_t **finding);

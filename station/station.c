@@ -97,10 +97,11 @@ static enum status store(const struct records *records, const struct options *op
 /* What the library says of a whole image. */
 static enum status show_image(struct subject *subject, const uint8_t *state, const struct options *options) {
   struct records records;
-  ask_records(state, &records);
+  ask_records(state, options->strict_date ? ROOSTCORD_DATE_STRICT : ROOSTCORD_DATE_AS_IS, &records);
   enum status stored = store(&records, options);
   subject->status = status_of(&records.findings, options->strict);
   if (stored > subject->status) subject->status = stored;
+  if (options->label && ROOSTCORD_REFUSED(records.manufacturing_answer)) subject->status = UNREADABLE;
   if (options->json) json_image(subject, &records, options);
   else print_image(&records, options);
   return subject->status;
