@@ -3,6 +3,7 @@
 import pathlib
 
 HERE = pathlib.Path(__file__).resolve().parent
+SIZE = 1024  # as byte 0 says
 
 
 def crc16(data):
@@ -14,9 +15,9 @@ def crc16(data):
     return crc
 
 
-def module(row_times):
-    """A 4800 MT/s UDIMM with tAA, tRCD, tRP, tRAS and tRC as told, in picoseconds."""
-    image = bytearray(512)
+def module(row_times, date, serial, part, revision):
+    """A 4800 MT/s UDIMM with tAA, tRCD, tRP, tRAS and tRC as told, in picoseconds, and with that label."""
+    image = bytearray(SIZE)
 
     def number(offset, value):
         image[offset : offset + 2] = value.to_bytes(2, "little")
@@ -37,6 +38,12 @@ def module(row_times):
         number(70 + 3 * k, time)
         image[72 + 3 * k] = clocks
     number(510, crc16(image[:510]))
+    # The makers are made up. Bit 7 of each of their bytes is a parity, which makes the count of ones odd.
+    image[512:515] = bytes([0xE3, 0x2A, 7])
+    image[515:517] = bytes.fromhex(date)  # year and week, two digits each
+    image[517:521] = bytes.fromhex(serial)
+    image[521:551] = part.encode("ascii").ljust(30)
+    image[551:555] = bytes([revision, 0x64, 0xB3, 11])
     return bytes(image)
 
 
@@ -47,10 +54,10 @@ def xxd(offset, data):
     return f"{offset:08x}: {groups:39}  {text}\n"
 
 
-image = module((16640, 16640, 16640, 32000, 48640))
-arrived = [(offset, image[offset : offset + 16]) for offset in range(0, 512, 16)]
+image = module((16640, 16640, 16640, 32000, 48640), "2614", "0A1B2C3D", "RCORD-U16 4800", 18)
+arrived = [(offset, image[offset : offset + 16]) for offset in range(0, SIZE, 16)]
 arrived.insert(2, arrived[1])  # the burst of bytes 16 to 31 comes twice
 (HERE / "ddr5-4800.bin").write_bytes(image)
-(HERE / "ddr5-4800b.bin").write_bytes(module((16000, 16000, 16000, 32000, 48000)))
+(HERE / "ddr5-4800b.bin").write_bytes(module((16000, 16000, 16000, 32000, 48000), "2631", "0A1B2C9F", "RCORD-U16 4800B", 19))
 (HERE / "ddr5-4800-burst-twice.xxd").write_text("".join(xxd(offset, data) for offset, data in arrived))
-(HERE / "ddr5-4800-burst-twice.bin").write_bytes(b"".join(data for _, data in arrived)[:512])
+(HERE / "ddr5-4800-burst-twice.bin").write_bytes(b"".join(data for _, data in arrived)[:SIZE])
