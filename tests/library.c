@@ -20,6 +20,8 @@
 SURELY(identity_places, ROOSTCORD_IDENTITY_BUS_WIDTH + 1 == ROOSTCORD_IDENTITY_COUNT);
 SURELY(timings_places, ROOSTCORD_TIMINGS_DATA_RATE + 1 == ROOSTCORD_TIMINGS_COUNT);
 SURELY(clocks_places, ROOSTCORD_CLOCKS_TRFCSB + 1 == ROOSTCORD_CLOCKS_COUNT);
+SURELY(manufacturing_places, ROOSTCORD_MANUFACTURING_PART_LENGTH + 1 == ROOSTCORD_MANUFACTURING_COUNT);
+SURELY(state_keeps_the_block, 2 + ROOSTCORD_MANUFACTURING_NEEDS == ROOSTCORD_STATE_SIZE);
 SURELY(clocks_as_timings, ROOSTCORD_TIMINGS_TRFCSB - ROOSTCORD_TIMINGS_TAA == ROOSTCORD_CLOCKS_TRFCSB - ROOSTCORD_CLOCKS_TAA);
 SURELY(pairs_follow, ROOSTCORD_TIMINGS_TRRD_L == ROOSTCORD_TIMINGS_TRFCSB + 1 && ROOSTCORD_TIMINGS_TRTP_CLOCKS + 1 == ROOSTCORD_TIMINGS_DATA_RATE);
 SURELY(finding_places, ROOSTCORD_FINDING_THIRD + 1 == ROOSTCORD_FINDING_COUNT);
@@ -232,6 +234,125 @@ static void cas_list_length(const uint8_t *image, size_t n, size_t len) {
   release((uint8_t *)list, 2 * len);
 }
 
+enum { PART = 521, PART_MAX = ROOSTCORD_PART_NUMBER_MAX, NUMBERS = ROOSTCORD_MANUFACTURING_COUNT, BLOCK_NEEDS = ROOSTCORD_MANUFACTURING_NEEDS };
+
+static const size_t block_reads[][2] = {{512, BLOCK_NEEDS}};
+static const uint32_t modes[] = {ROOSTCORD_DATE_AS_IS, ROOSTCORD_DATE_STRICT, 7, UINT32_MAX}; /* only the first is not strict */
+enum { MODES = sizeof modes / sizeof *modes };
+
+/* The answer about the part number of an image, with places enough. */
+static int32_t part_of(const uint8_t *image, size_t n) {
+  int32_t len = PART_MAX;
+  if (n < BLOCK_NEEDS) return TRUNCATED(block_reads, n);
+  while (len > 0 && image[PART + len - 1] == ' ') len--;
+  return len;
+}
+
+static uint32_t decimal(uint8_t byte) { return 10u * (byte >> 4) + (byte & 15u); }
+
+static int is_date(uint8_t year, uint8_t week) {
+  int digits = year >> 4 < 10 && (year & 15) < 10 && week >> 4 < 10 && (week & 15) < 10;
+  return digits && decimal(week) >= 1 && decimal(week) <= 53;
+}
+
+/* The answer about the block of an image, with places enough, and its numbers. */
+static int32_t block_of(const uint8_t *b, size_t n, uint32_t strict, uint32_t *numbers) {
+  if (n < BLOCK_NEEDS) return TRUNCATED(block_reads, n);
+  if (strict != 0 && !is_date(b[515], b[516])) return -ROOSTCORD_WRONG_DATE;
+  numbers[ROOSTCORD_MANUFACTURING_MODULE_BANK] = (b[512] & 0x7Fu) + 1;
+  numbers[ROOSTCORD_MANUFACTURING_MODULE_CODE] = b[513] & 0x7Fu;
+  numbers[ROOSTCORD_MANUFACTURING_PLACE] = b[514];
+  numbers[ROOSTCORD_MANUFACTURING_YEAR] = 2000 + decimal(b[515]);
+  numbers[ROOSTCORD_MANUFACTURING_WEEK] = decimal(b[516]);
+  numbers[ROOSTCORD_MANUFACTURING_SERIAL] = (uint32_t)b[517] << 24 | (uint32_t)b[518] << 16 | (uint32_t)b[519] << 8 | b[520];
+  numbers[ROOSTCORD_MANUFACTURING_REVISION] = b[551];
+  numbers[ROOSTCORD_MANUFACTURING_DRAM_BANK] = (b[552] & 0x7Fu) + 1;
+  numbers[ROOSTCORD_MANUFACTURING_DRAM_CODE] = b[553] & 0x7Fu;
+  numbers[ROOSTCORD_MANUFACTURING_STEPPING] = b[554];
+  numbers[ROOSTCORD_MANUFACTURING_PART_LENGTH] = (uint32_t)part_of(b, n);
+  return NUMBERS;
+}
+
+/* The block in every mode, and the part number, into lists of that length at a guard page. */
+static void block_list_length(const uint8_t *image, size_t n, size_t len) {
+  uint32_t *list = (uint32_t *)guarded(4 * len), wanted[NUMBERS];
+  uint8_t *part = guarded(len);
+  for (size_t k = 0; k < MODES; k++) {
+    if (len) memset(list, 0xA5, 4 * len);
+    int32_t a = roostcord_manufacturing(image, n, modes[k], list, len);
+    CHECK(a == (len < NUMBERS ? -ROOSTCORD_LIST_TOO_SHORT : block_of(image, n, modes[k], wanted)));
+    size_t put = a < 0 ? 0 : (size_t)a;
+    CHECK(same(list, wanted, 4 * put));
+    CHECK(len == 0 || all((uint8_t *)(list + put), 4 * (len - put), 0xA5));
+  }
+  if (len) memset(part, 0xA5, len);
+  int32_t a = roostcord_part_number(image, n, part, len);
+  CHECK(a == (len < PART_MAX ? -ROOSTCORD_LIST_TOO_SHORT : part_of(image, n)));
+  size_t put = a < 0 ? 0 : (size_t)a;
+  CHECK(put == 0 || same(part, image + PART, put));
+  CHECK(len == 0 || all(part + put, len - put, 0xA5));
+  release((uint8_t *)list, 4 * len);
+  release(part, len);
+}
+
+/* The block of a changed image, whatever else stands in it, against the numbers of its bytes. */
+static void block_holds(const uint8_t *image, size_t n) {
+  uint32_t list[NUMBERS], wanted[NUMBERS];
+  uint8_t part[PART_MAX];
+  for (size_t k = 0; k < MODES; k++) {
+    int32_t a = roostcord_manufacturing(image, n, modes[k], list, NUMBERS);
+    CHECK(a == block_of(image, n, modes[k], wanted) && (a < 0 || same(list, wanted, sizeof list)));
+  }
+  int32_t len = roostcord_part_number(image, n, part, PART_MAX);
+  CHECK(len == part_of(image, n) && (len <= 0 || same(part, image + PART, (size_t)len)));
+}
+
+/* Part numbers of every length and of any bytes: only the spaces that end them go. */
+static void every_part(uint8_t *image, size_t n) {
+  static const uint8_t fills[] = {'A', 0x00, 0x1F, 0x21, 0x80, 0xA0, 0xFF};
+  uint8_t *part = image + PART;
+  for (size_t k = 0; k < sizeof fills * (PART_MAX + 1); k++) {
+    size_t len = k / sizeof fills;
+    memset(part, ' ', PART_MAX);
+    memset(part, fills[k % sizeof fills], len);
+    CHECK(part_of(image, n) == (int32_t)len);
+    block_list_length(image, n, PART_MAX);
+    if (len == 0) continue;
+    memset(part, ' ', len - 1); /* spaces in front stay */
+    CHECK(part_of(image, n) == (int32_t)len);
+    block_list_length(image, n, PART_MAX + 1);
+    part[0] = 0xFF; /* and those within */
+    block_holds(image, n);
+  }
+}
+
+/* Every value of every byte of the block, some of every other byte, every date, and every length around that of the block. */
+static void every_block(const uint8_t *sample, size_t n) {
+  uint8_t image[ROOSTCORD_IMAGE_MAX];
+  CHECK(n >= BLOCK_NEEDS); /* or the block is not tried */
+  if (n < BLOCK_NEEDS) return;
+  memcpy(image, sample, n);
+  for (size_t at = 0; at < n; at++) {
+    for (unsigned value = 0; value < 256; value += at >= 512 && at < BLOCK_NEEDS ? 1 : 51) {
+      image[at] = (uint8_t)value;
+      block_holds(image, n);
+    }
+    image[at] = sample[at];
+  }
+  for (unsigned date = 0; date < 65536; date++) {
+    image[515] = (uint8_t)(date >> 8), image[516] = (uint8_t)date;
+    block_holds(image, n);
+  }
+  for (size_t len = 511; len <= BLOCK_NEEDS + 1; len++) { /* the date is none now, and 1 comes before 13 */
+    uint8_t *edge = guarded(len);
+    memcpy(edge, image, len);
+    for (size_t places = NUMBERS - 1; places <= PART_MAX + 1; places += places == NUMBERS ? PART_MAX - 1 - NUMBERS : 1)
+      block_list_length(edge, len, places);
+    release(edge, len);
+  }
+  every_part(image, n);
+}
+
 /* Lists of numbers of every length around what is asked: short ones are refused 4 and stay; else the refusal is the one that the
  * image's length and codes ask for. */
 static void every_list_length(const uint8_t *image, size_t n) {
@@ -252,6 +373,7 @@ static void every_list_length(const uint8_t *image, size_t n) {
       CHECK(len == 0 || all((uint8_t *)(list + put), 4 * (len - put), 0xA5));
     }
     cas_list_length(image, n, len);
+    block_list_length(image, n, len);
     release((uint8_t *)list, 4 * len);
   }
 }
@@ -279,11 +401,27 @@ static void every_refusal(const uint8_t *sample, size_t n) {
 
 enum { LIST = 64, STATE = ROOSTCORD_STATE_SIZE, IMAGE_MAX = ROOSTCORD_IMAGE_MAX }; /* LIST: places enough for every list */
 
-/* Whether a state answers as the image does. */
+/* Whether a state has the block of the image. */
+static void block_as_whole(const uint8_t *state, const uint8_t *image, size_t n) {
+  uint32_t x[LIST], y[LIST];
+  uint8_t a[LIST], b[LIST];
+  memset(a, 1, sizeof a), memset(b, 1, sizeof b), memset(x, 1, sizeof x), memset(y, 1, sizeof y);
+  for (size_t k = 0; k < MODES; k++) {
+    int32_t whole = roostcord_manufacturing(image, n, modes[k], y, LIST);
+    CHECK(roostcord_pieces_manufacturing(state, STATE, modes[k], x, LIST) == whole && same(x, y, sizeof x));
+  }
+  CHECK(roostcord_pieces_part_number(state, STATE, a, LIST) == roostcord_part_number(image, n, b, LIST) && same(a, b, sizeof a));
+  CHECK(roostcord_pieces_manufacturing(state, STATE, 0, x, NUMBERS - 1) == -ROOSTCORD_LIST_TOO_SHORT && same(x, y, sizeof x));
+  CHECK(roostcord_pieces_part_number(state, STATE, a, PART_MAX - 1) == -ROOSTCORD_LIST_TOO_SHORT && same(a, b, sizeof a));
+}
+
+/* Whether a state answers as the image does, and stays as it is. */
 static void as_whole(const uint8_t *state, const uint8_t *image, size_t n) {
   uint8_t a[ROOSTCORD_REPORT_MAX + 1], b[ROOSTCORD_REPORT_MAX + 1];
   uint32_t x[LIST], y[LIST];
   uint16_t p[LIST], q[LIST];
+  uint8_t before[STATE];
+  memcpy(before, state, STATE);
   memset(a, 1, sizeof a), memset(b, 1, sizeof b), memset(x, 1, sizeof x), memset(y, 1, sizeof y), memset(p, 1, sizeof p), memset(q, 1, sizeof q);
   CHECK(roostcord_pieces_taken(state, STATE) == (int32_t)n);
   CHECK(roostcord_pieces_lint(state, STATE, a, sizeof a) == roostcord_lint(image, n, b, sizeof b) && same(a, b, sizeof a));
@@ -291,21 +429,28 @@ static void as_whole(const uint8_t *state, const uint8_t *image, size_t n) {
   CHECK(roostcord_pieces_timings(state, STATE, x, LIST) == roostcord_timings(image, n, y, LIST) && same(x, y, sizeof x));
   CHECK(roostcord_pieces_clocks(state, STATE, x, LIST) == roostcord_clocks(image, n, y, LIST) && same(x, y, sizeof x));
   CHECK(roostcord_pieces_cas_latencies(state, STATE, p, LIST) == roostcord_cas_latencies(image, n, q, LIST) && same(p, q, sizeof p));
+  block_as_whole(state, image, n);
+  CHECK(same(before, state, STATE));
 }
 
-/* A state that is too short is refused and stays. */
+/* A state that is too short is refused and stays; 512 bytes, which were enough before 1.2.0, are too few. */
 static void short_states(const uint8_t *image, size_t n) {
   enum { SHORT = -ROOSTCORD_LIST_TOO_SHORT };
-  uint8_t none[1];
+  static const size_t lengths[] = {0, 1, 2, 73, 400, 511, 512, 555, STATE - 1};
+  uint8_t none[LIST];
   uint16_t narrow[LIST];
   uint32_t list[LIST];
-  for (size_t len = 0; len < STATE; len += 73) {
+  memset(none, 0xA5, sizeof none), memset(list, 0xA5, sizeof list);
+  for (size_t k = 0; k < sizeof lengths / sizeof *lengths; k++) {
+    size_t len = lengths[k];
     uint8_t *state = guarded(len);
     if (len) memset(state, 0xA5, len);
     CHECK(roostcord_pieces_fresh(state, len) == SHORT && roostcord_pieces_taken(state, len) == SHORT);
-    CHECK(roostcord_pieces_feed(state, len, 0, image, n) == SHORT && roostcord_pieces_lint(state, len, none, 1) == SHORT);
+    CHECK(roostcord_pieces_feed(state, len, 0, image, n) == SHORT && roostcord_pieces_lint(state, len, none, LIST) == SHORT);
     CHECK(roostcord_pieces_identity(state, len, list, LIST) == SHORT && roostcord_pieces_timings(state, len, list, LIST) == SHORT);
     CHECK(roostcord_pieces_clocks(state, len, list, LIST) == SHORT && roostcord_pieces_cas_latencies(state, len, narrow, LIST) == SHORT);
+    CHECK(roostcord_pieces_manufacturing(state, len, 0, list, LIST) == SHORT && roostcord_pieces_manufacturing(state, len, 1, list, LIST) == SHORT);
+    CHECK(roostcord_pieces_part_number(state, len, none, LIST) == SHORT && all(none, sizeof none, 0xA5) && all((uint8_t *)list, sizeof list, 0xA5));
     CHECK(len == 0 || all(state, len, 0xA5));
     release(state, len);
   }
@@ -331,6 +476,7 @@ static void pieces(const uint8_t *image, size_t n) {
   static uint8_t zeros[IMAGE_MAX + 1];
   enum { WRONG = -ROOSTCORD_WRONG_OFFSET, LONG = -ROOSTCORD_TOO_LONG };
   uint8_t *state = guarded(STATE);
+  uint32_t list[NUMBERS];
   short_states(image, n);
   for (size_t burst = 1; burst <= 600; burst += burst < 20 ? 1 : 97) each_twice(state, image, n, burst);
   for (size_t cut = 0; cut <= n; cut++) { /* every cut into two */
@@ -346,6 +492,8 @@ static void pieces(const uint8_t *image, size_t n) {
   CHECK(roostcord_pieces_feed(state, STATE, SIZE_MAX, zeros, 1) == WRONG - 256 * IMAGE_MAX);
   memset(state, 0xFF, STATE); /* a state that no feeding leads to has an answer as well */
   CHECK(roostcord_pieces_taken(state, STATE) == 4095 && roostcord_pieces_feed(state, STATE, 4095, zeros, 0) == LONG);
+  CHECK(roostcord_pieces_manufacturing(state, STATE, 0, list, NUMBERS) == NUMBERS && list[ROOSTCORD_MANUFACTURING_YEAR] == 2165);
+  CHECK(roostcord_pieces_manufacturing(state, STATE, 1, list, NUMBERS) == -ROOSTCORD_WRONG_DATE);
   release(state, STATE);
 }
 
@@ -662,7 +810,7 @@ int main(int argc, char **argv) {
     fclose(file);
     static const size_t lengths[] = {0,  1,   5,   7,   8,   15,  16,  19,  20,  28,  29,  30,  47,  48,  69,  70,
                                      93, 94,  100, 127, 128, 191, 192, 229, 230, 234, 235, 236, 239, 240, 509, 510,
-                                     512};
+                                     511, 512, 513, 530, 554, 555, 556, 1024};
     for (size_t k = 0; k < sizeof lengths / sizeof *lengths; k++) {
       size_t len = lengths[k] < n ? lengths[k] : n;
       uint8_t *edge = guarded(len);
@@ -673,6 +821,7 @@ int main(int argc, char **argv) {
     }
     if (n > IMAGE_MAX) n = IMAGE_MAX;
     every_refusal(image, n);
+    every_block(image, n);
     pieces(image, n);
     CHECK(n > 2 * BURST); /* or the feeding loop is not tried */
     if (n <= 2 * BURST) continue;
