@@ -52,8 +52,9 @@ static const char forms[] =
     "Each burst is fed with its own offset. One that comes again is told on standard error as refused 5, and changes nothing; where\n"
     "bytes are missing, their offset is told there, and nothing is listed.\n"
     "\n"
-    "Status: 0 nothing of severity error (with --strict: no finding at all); 1 findings of that kind; 2 an image was refused, or\n"
-    "something could not be read or written; 3 the words of the command line make no sense. With several images the largest counts.\n";
+    "Status: 0 nothing of severity error (with --strict: no finding at all); 1 findings of that kind; 2 an image was refused, or a label\n"
+    "that was asked for, or something could not be read or written; 3 the words of the command line make no sense. With several images\n"
+    "the largest counts.\n";
 
 static const struct option longs[] = {
     {"burst", required_argument, NULL, 'b'}, {"bursts", no_argument, NULL, 'l'},       {"strict", no_argument, NULL, 's'},
