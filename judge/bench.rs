@@ -5,7 +5,7 @@ mod images;
 mod ours;
 mod stack;
 
-use images::{Rng, put16};
+use images::{PROFILES, Rng, put_block, put16};
 use spdr::Finding;
 use std::hint::black_box;
 use std::process::Command;
@@ -18,6 +18,8 @@ const ROUNDS: usize = 25;
 const ROUND: Duration = Duration::from_millis(20);
 
 type Image = [u8; LEN];
+/// An image with a manufacturing block.
+type Labelled = [u8; PROFILES];
 
 /// Sound images with 0 to 8 changes each.
 fn mixed(count: usize) -> Vec<Image> {
@@ -30,6 +32,17 @@ fn mixed(count: usize) -> Vec<Image> {
         image
     };
     (0..count).map(one).collect()
+}
+
+/// Mixed images with a manufacturing block behind them, its part number in ASCII.
+fn labelled(count: usize) -> Vec<Labelled> {
+    let one = |(i, front): (usize, &Image)| {
+        let mut image = [0; PROFILES];
+        image[..LEN].copy_from_slice(front);
+        put_block(&mut image, &mut Rng::new(9, i as u64));
+        image
+    };
+    mixed(count).iter().enumerate().map(one).collect()
 }
 
 /// Sound images that differ in bytes that have no rule.
@@ -106,6 +119,20 @@ fn timings_rust() -> impl FnMut(&Image) {
     }
 }
 
+fn manufacturing_ours() -> impl FnMut(&Labelled) {
+    let mut out = [0; ours::MANUFACTURING_COUNT];
+    move |image| {
+        black_box(ours::manufacturing(black_box(image), 0, black_box(&mut out)));
+        black_box(&out);
+    }
+}
+
+fn manufacturing_rust() -> impl FnMut(&Labelled) {
+    |image| {
+        let _ = black_box(spdr::decode_manufacturing(black_box(image)));
+    }
+}
+
 /// A report read into numbers. The Rust has no report.
 fn report_ours() -> impl FnMut(&Image) {
     let mut out = [0; ours::REPORT_NUMBERS];
@@ -130,7 +157,7 @@ fn bursts_ours() -> impl FnMut(&Image) {
 }
 
 /// The loop's own share.
-fn nothing() -> impl FnMut(&Image) {
+fn nothing<I>() -> impl FnMut(&I) {
     |image| {
         black_box(image);
     }
@@ -159,7 +186,7 @@ fn thread_time() -> Duration {
 }
 
 #[inline(never)]
-fn timed(images: &[Image], order: &[u32], call: &mut impl FnMut(&Image)) -> Duration {
+fn timed<I>(images: &[I], order: &[u32], call: &mut impl FnMut(&I)) -> Duration {
     let start = thread_time();
     for &i in order {
         call(&images[i as usize]);
@@ -200,7 +227,7 @@ fn sorted(mut all: Vec<f64>) -> Vec<f64> {
 }
 
 /// Rounds of the first call and of the second, in turns, each pair in one order.
-fn compare(images: &[Image], shuffled: bool, mut first: impl FnMut(&Image), mut second: impl FnMut(&Image)) -> Figures {
+fn compare<I>(images: &[I], shuffled: bool, mut first: impl FnMut(&I), mut second: impl FnMut(&I)) -> Figures {
     let (first, second) = (&mut first, &mut second);
     let mut rng = Rng::new(11, 0);
     let trial = order(images.len(), SHUFFLED, shuffled, &mut rng);
@@ -239,15 +266,18 @@ fn run_family(name: &str, passes: usize) -> bool {
         "identity-rust" => run(mixed, passes, identity_rust()),
         "timings-ours" => run(mixed, passes, timings_ours()),
         "timings-rust" => run(mixed, passes, timings_rust()),
+        "manufacturing-ours" => run(labelled, passes, manufacturing_ours()),
+        "manufacturing-rust" => run(labelled, passes, manufacturing_rust()),
         "bursts-ours" => run(mixed, passes, bursts_ours()),
         "report-ours" => run(reports, passes, report_ours()),
         "nothing" => run(mixed, passes, nothing()),
+        "nothing-labelled" => run(labelled, passes, nothing()),
         _ => return false,
     }
     true
 }
 
-fn run(images: fn(usize) -> Vec<Image>, passes: usize, mut call: impl FnMut(&Image)) {
+fn run<I>(images: fn(usize) -> Vec<I>, passes: usize, mut call: impl FnMut(&I)) {
     let order = order(FIXED, passes * FIXED, false, &mut Rng::new(0, 0));
     timed(&images(FIXED), &order, &mut call);
 }
@@ -295,6 +325,10 @@ fn print_machine() {
         total as f64 / FIXED as f64
     );
     println!(
+        "- manufacturing: the mixed images with a block behind them, {PROFILES} bytes in all; part numbers of 0 to 30 ASCII characters, \
+         of which ours has the length and the Rust the text"
+    );
+    println!(
         "- fixed: {FIXED} images in one order over and over; shuffled: {SHUFFLED} images, an order that is new in each round"
     );
     println!(
@@ -325,6 +359,14 @@ fn check_images() {
         let (here, there) = (usize::from(report[4]), findings(image));
         assert!(here == there || (other_device && here < there), "an image has other findings than the Rust's: see the judge");
     }
+    // Here spaces alone pad a part number, and both sides have it as long.
+    let mut out = [0; ours::MANUFACTURING_COUNT];
+    for image in &labelled(SHUFFLED) {
+        let answer = ours::manufacturing(image, 0, &mut out);
+        let both = spdr::decode_manufacturing(image)
+            .is_ok_and(|m| (m.serial_number.0, m.part_number.len()) == (out[5], out[10] as usize));
+        assert!(answer == 11 && both, "an image has another manufacturing block than the Rust's: see the judge");
+    }
 }
 
 /// The cells of a row that are about time.
@@ -336,12 +378,12 @@ fn time_cells(f: &Figures) -> String {
 }
 
 /// One call against the Rust's, in one order and shuffled.
-fn print_rows(
+fn print_rows<I>(
     name: &str,
     family: &str,
-    images: fn(usize) -> Vec<Image>,
-    mut ours: impl FnMut(&Image),
-    mut rust: impl FnMut(&Image),
+    images: fn(usize) -> Vec<I>,
+    mut ours: impl FnMut(&I),
+    mut rust: impl FnMut(&I),
     own: Option<f64>,
 ) {
     let images = images(SHUFFLED);
@@ -361,6 +403,8 @@ fn print_against_rust(own: Option<f64>) {
     print_rows("lint, clean", "lint-clean", clean, lint_ours(), lint_rust(), own);
     print_rows("identity, mixed", "identity", mixed, identity_ours(), identity_rust(), own);
     print_rows("timings, mixed", "timings", mixed, timings_ours(), timings_rust(), own);
+    let labelled_own = instructions("nothing-labelled");
+    print_rows("manufacturing", "manufacturing", labelled, manufacturing_ours(), manufacturing_rust(), labelled_own);
     let f = compare(&mixed(FIXED), false, bursts_ours(), lint_rust());
     println!(
         "| 512 bytes in 32 bursts, then lint, against the Rust's lint of the whole image; mixed, fixed | {} | {} | {} |",
@@ -393,8 +437,8 @@ fn print_reading(own: Option<f64>) {
     println!("| reading a report; mixed | {fixed:.0} | {shuffled:.0} | {} |", instruction_cell("report-ours", own));
 }
 
-/// The arguments of a call on an image, on its report, or on a state that has taken all of it but the last burst.
-fn arguments(name: &str, image: &Image, report: &Image, state: &mut [u8], out: &mut [u32]) -> [usize; 5] {
+/// The arguments of a call on an image, on its report, or on a state.
+fn arguments(name: &str, image: &Labelled, report: &Image, state: &mut [u8], out: &mut [u32]) -> [usize; 5] {
     let at = state.as_mut_ptr() as usize;
     // So many places in each element size: the buffer is long enough in the widest.
     let filled = out.as_mut_ptr() as usize;
@@ -402,23 +446,26 @@ fn arguments(name: &str, image: &Image, report: &Image, state: &mut [u8], out: &
         "roostcord_report" => [report.as_ptr() as usize, LEN, filled, out.len(), 0],
         "roostcord_pieces_fresh" | "roostcord_pieces_taken" => [at, state.len(), 0, 0, 0],
         "roostcord_pieces_feed" => [at, state.len(), LEN - 16, image[LEN - 16..].as_ptr() as usize, 16],
+        "roostcord_manufacturing" => [image.as_ptr() as usize, image.len(), 0, filled, out.len()],
+        "roostcord_pieces_manufacturing" => [at, state.len(), 0, filled, out.len()],
         _ if name.starts_with("roostcord_pieces") => [at, state.len(), filled, out.len(), 0],
-        _ => [image.as_ptr() as usize, LEN, filled, out.len(), 0],
+        _ => [image.as_ptr() as usize, image.len(), filled, out.len(), 0],
     }
 }
 
-/// The most stack of each call over the mixed images.
+/// The most stack of each call over the mixed images with a block. A state has taken all of its image, or all before the burst that it is fed.
 fn print_stack() {
     let mut room = stack::Stack::new();
     let symbols = ours::symbols();
     let mut most = [0; ours::SYMBOLS];
-    for (image, report) in mixed(FIXED).iter().zip(&reports(FIXED)) {
+    for (image, report) in labelled(FIXED).iter().zip(&reports(FIXED)) {
         for (most, (name, function)) in most.iter_mut().zip(symbols) {
             let mut state = [0; ours::STATE_SIZE];
             let mut out = [0; ours::REPORT_MAX];
+            let taken = if name == "roostcord_pieces_feed" { LEN - 16 } else { image.len() };
             let ready = || {
                 ours::pieces_fresh(&mut state);
-                ours::pieces_feed(&mut state, 0, &image[..LEN - 16]);
+                ours::pieces_feed(&mut state, 0, &image[..taken]);
                 stack::Call { function, arguments: arguments(name, image, report, &mut state, &mut out) }
             };
             // SAFETY: the arguments are those of station/roostcord.h, and nothing else uses the buffers meanwhile.

@@ -1,17 +1,19 @@
 //! One image, asked of both sides: every number of both records, the refusals with what they carry, the offset that is missing among
 //! it, the CAS list, and every finding in order. Our answers come from the C library; the Rust's are put into document 01's numbers here.
+//! The manufacturing block is compared in manufacturing.rs.
 //!
 //! The report form has no severity, so the Rust's severity of each finding is held against document 01's for its code; and so is
 //! the severity that the library answers when it reads the report back, with all else that the report says. The clock table,
 //! which the Rust does not have, is held against document 01's definition of it over the Rust's times.
 
 use crate::images::Rng;
+use crate::manufacturing;
 use crate::numbers::{DEVICE_TYPE, Row, field_number, identity_lacks, identity_numbers, row};
 use crate::ours;
 use spdr::{DecodeError, Finding, IdentityAndBase, Severity, Timings};
 
 /// What lent lists hold before a call. A refused call must leave it.
-const STAY: u8 = 0xA5;
+pub const STAY: u8 = 0xA5;
 
 /// How an image compared: alike, or by a row of docs/DIFFERENCES.md, which is then checked to be that row.
 #[derive(Clone, Copy, PartialEq)]
@@ -21,7 +23,7 @@ pub enum Verdict {
     OtherType,
 }
 
-/// Everything the library says of one image.
+/// Everything the library says of one image, the manufacturing block in both modes; which number asked for the strict one.
 #[derive(PartialEq)]
 pub struct Answers {
     words: [i32; 5],
@@ -30,13 +32,43 @@ pub struct Answers {
     timings: [u32; 30],
     cas: [u16; 40],
     clocks: [u32; 9],
+    strict: u32,
+    pub block: manufacturing::Answers,
 }
 
-type Question<T> = fn(&[u8], &mut [T]) -> i32;
+pub type Question<T> = fn(&[u8], &mut [T]) -> i32;
+
+/// The calls that ask one thing of an image or of a state.
+struct Questions {
+    lint: Question<u8>,
+    identity: Question<u32>,
+    timings: Question<u32>,
+    cas: Question<u16>,
+    clocks: Question<u32>,
+    block: manufacturing::Questions,
+}
+
+const OF_IMAGE: Questions = Questions {
+    lint: ours::lint,
+    identity: ours::identity,
+    timings: ours::timings,
+    cas: ours::cas_latencies,
+    clocks: ours::clocks,
+    block: manufacturing::OF_IMAGE,
+};
+
+const OF_STATE: Questions = Questions {
+    lint: ours::pieces_lint,
+    identity: ours::pieces_identity,
+    timings: ours::pieces_timings,
+    cas: ours::pieces_cas_latencies,
+    clocks: ours::pieces_clocks,
+    block: manufacturing::OF_STATE,
+};
 
 impl Answers {
-    pub fn of_image(image: &[u8]) -> Self {
-        Self::of(image, ours::lint, (ours::identity, ours::timings, ours::clocks), ours::cas_latencies)
+    pub fn of_image(image: &[u8], strict: u32) -> Self {
+        Self::of(image, &OF_IMAGE, strict)
     }
 
     /// The flags of the report and the codes of its findings.
@@ -44,18 +76,8 @@ impl Answers {
         (self.report[3], self.report[5..].chunks(14).map(|r| r[0]).take(self.report[4].into()))
     }
 
-    fn of_state(state: &[u8]) -> Self {
-        let lists = (ours::pieces_identity as _, ours::pieces_timings as _, ours::pieces_clocks as _);
-        Self::of(state, ours::pieces_lint, lists, ours::pieces_cas_latencies)
-    }
-
     #[inline(always)]
-    fn of(
-        from: &[u8],
-        lint: Question<u8>,
-        (identity, timings, clocks): (Question<u32>, Question<u32>, Question<u32>),
-        cas: Question<u16>,
-    ) -> Self {
+    fn of(from: &[u8], ask: &Questions, strict: u32) -> Self {
         let mut a = Answers {
             words: [0; 5],
             report: [STAY; ours::REPORT_MAX],
@@ -63,20 +85,22 @@ impl Answers {
             timings: [STAY.into(); 30],
             cas: [STAY.into(); 40],
             clocks: [STAY.into(); 9],
+            strict,
+            block: manufacturing::Answers::of(from, &ask.block, strict),
         };
         a.words = [
-            lint(from, &mut a.report),
-            identity(from, &mut a.identity),
-            timings(from, &mut a.timings),
-            cas(from, &mut a.cas),
-            clocks(from, &mut a.clocks),
+            (ask.lint)(from, &mut a.report),
+            (ask.identity)(from, &mut a.identity),
+            (ask.timings)(from, &mut a.timings),
+            (ask.cas)(from, &mut a.cas),
+            (ask.clocks)(from, &mut a.clocks),
         ];
         a
     }
 }
 
 /// An answer of the C library that is a refusal.
-const fn refusal(number: i32, first: i32, second: i32) -> i32 {
+pub const fn refusal(number: i32, first: i32, second: i32) -> i32 {
     -(number + 256 * first + (second << 20))
 }
 
@@ -93,22 +117,22 @@ pub fn compare(image: &[u8], ours: &Answers) -> Result<Verdict, String> {
 }
 
 /// An answer and a lent list against the numbers that belong there or the refusal word.
-fn list<T: PartialEq + Copy + From<u8> + std::fmt::Display>(
+pub fn list<T: PartialEq + Copy + From<u8> + std::fmt::Display>(
     what: &str,
     word: i32,
     ours: &[T],
-    rust: Result<&[T], i32>,
+    wanted: Result<&[T], i32>,
 ) -> Result<(), String> {
-    let numbers = rust.unwrap_or(&[]);
-    let answer = rust.map_or_else(|word| word, |l| l.len() as i32);
+    let numbers = wanted.unwrap_or(&[]);
+    let answer = wanted.map_or_else(|word| word, |l| l.len() as i32);
     if word != answer {
-        return Err(format!("{what}: answer {word}, the Rust's would be {answer}"));
+        return Err(format!("{what}: answer {word}, should be {answer}"));
     }
     let rest = ours.len() - numbers.len();
-    let theirs = numbers.iter().copied().chain(std::iter::repeat_n(T::from(STAY), rest));
-    match ours.iter().zip(theirs).position(|(a, b)| *a != b) {
+    let whole = numbers.iter().copied().chain(std::iter::repeat_n(T::from(STAY), rest));
+    match ours.iter().zip(whole).position(|(a, b)| *a != b) {
         None => Ok(()),
-        Some(i) if i < numbers.len() => Err(format!("{what}: number {i} is {}, the Rust's {}", ours[i], numbers[i])),
+        Some(i) if i < numbers.len() => Err(format!("{what}: number {i} is {}, should be {}", ours[i], numbers[i])),
         Some(i) => Err(format!("{what}: number {i} was written")),
     }
 }
@@ -307,7 +331,9 @@ pub fn feed(image: &[u8], cut: Cut, rng: &mut Rng, whole: &Answers) -> Result<()
     }
     full(&mut state, at)?;
     expect("the count taken", at, ours::pieces_taken(&state), at as i32)?;
-    if Answers::of_state(&state) == *whole { Ok(()) } else { Err("pieces: an answer is not that for the whole image".into()) }
+    manufacturing::too_short(image, &state, whole.strict, rng)?;
+    let answers = Answers::of(&state, &OF_STATE, whole.strict);
+    if answers == *whole { Ok(()) } else { Err("pieces: an answer is not that for the whole image".into()) }
 }
 
 /// One byte more than there is room for is refused 6.

@@ -4,11 +4,18 @@
 // Two programs share this file, and neither uses all of it.
 #![allow(dead_code)]
 
+use std::ops::Range;
+
 /// The reserved regions of document 01, offset and length.
 pub const RESERVED: [(usize, usize); 7] = [(15, 1), (29, 1), (103, 25), (128, 64), (214, 16), (236, 4), (448, 62)];
 
 /// Past this byte an image of the judge is zero: there the Rust may look for vendor profiles, which Roostcord does not have.
 pub const PROFILES: usize = 640;
+
+/// The manufacturing block by document 02: all of it, the two bytes of its date, and its part number.
+pub const BLOCK: Range<usize> = 512..555;
+pub const DATE: Range<usize> = 515..517;
+pub const PART: Range<usize> = 521..551;
 
 /// splitmix64. One generator for each image, made of the seed and the image's number, so that an image can be made again alone.
 pub struct Rng(u64);
@@ -173,5 +180,36 @@ pub fn damaged(image: &mut [u8], changes: usize, rng: &mut Rng) {
             0 => damage_time(image, rng),
             _ => damage(image, rng),
         }
+    }
+}
+
+/// A part number in ASCII: 0 to 30 printable characters, then spaces. One in four of the characters is a space, and one number in four begins with some.
+fn put_part_number(part: &mut [u8], rng: &mut Rng) {
+    let len = rng.below(part.len() + 1);
+    let front = if rng.below(4) == 0 { rng.below(len + 1) } else { 0 };
+    for (i, byte) in part.iter_mut().enumerate() {
+        let space = i < front || i >= len || *byte < 0x40;
+        *byte = if space { b' ' } else { b' ' + *byte % 95 };
+    }
+}
+
+/// Lays a manufacturing block into an image, as far as the image reaches. All bytes are random. Half of the dates have decimal digits, and weeks
+/// around both ends of a year among them. The part number is ASCII.
+pub fn put_block(image: &mut [u8], rng: &mut Rng) {
+    let mut bytes = [0; BLOCK.end];
+    let block = &mut bytes[BLOCK];
+    for eight in block.chunks_mut(8) {
+        eight.copy_from_slice(&rng.next().to_le_bytes()[..eight.len()]);
+    }
+    let decimal = |n: usize| (n / 10 * 16 + n % 10) as u8;
+    match rng.below(4) {
+        0 => bytes[DATE].copy_from_slice(&[decimal(rng.below(100)), decimal(rng.below(100))]),
+        1 => bytes[DATE].copy_from_slice(&[decimal(rng.below(100)), rng.pick(&[0x00, 0x01, 0x52, 0x53, 0x54])]),
+        _ => {}
+    }
+    put_part_number(&mut bytes[PART], rng);
+    let end = image.len().min(BLOCK.end);
+    if let Some(place) = image.get_mut(BLOCK.start..end) {
+        place.copy_from_slice(&bytes[BLOCK.start..end]);
     }
 }

@@ -4,11 +4,14 @@
 
 mod compare;
 mod images;
+mod manufacturing;
 mod numbers;
 mod ours;
 
 use compare::{Answers, Cut, Verdict};
-use images::{CYCLE_TIMES, MODULES, PROFILES, RESERVED, Rng, TIME_OFFSETS, put_cas, put16, sound_images};
+use images::{
+    BLOCK, CYCLE_TIMES, DATE, MODULES, PART, PROFILES, RESERVED, Rng, TIME_OFFSETS, put_block, put_cas, put16, sound_images,
+};
 use std::io::IsTerminal;
 use std::process::ExitCode;
 use std::time::{Duration, Instant};
@@ -23,11 +26,19 @@ struct Judge {
     fed: u64,
     short: u64,
     other: u64,
+    part_cut: u64,
+    not_ascii: u64,
+    zero_padded: u64,
     differences: u64,
     /// How many images decode, and how many findings of each code they have: that not all images end at the first check.
     identities: u64,
     timings: u64,
     findings: [u64; 10],
+    /// How many manufacturing blocks decode, by the length of their part number; how many of them the strict mode takes.
+    parts: [u64; 31],
+    strict: u64,
+    /// The image at hand, with its block.
+    image: Vec<u8>,
     family: &'static str,
     family_start: u64,
     started: Instant,
@@ -44,10 +55,16 @@ impl Judge {
             fed: 0,
             short: 0,
             other: 0,
+            part_cut: 0,
+            not_ascii: 0,
+            zero_padded: 0,
             differences: 0,
             identities: 0,
             timings: 0,
             findings: [0; 10],
+            parts: [0; 31],
+            strict: 0,
+            image: Vec::new(),
             family: "",
             family_start: 0,
             started: now,
@@ -66,25 +83,55 @@ impl Judge {
 
     /// Judges one image, one in eight of them in random pieces as well.
     fn see(&mut self, image: &[u8]) {
-        let cut = if self.images.is_multiple_of(8) { Some(Cut::Random) } else { None };
-        self.see_cut(image, cut);
+        self.see_cut(image, self.some_cut());
     }
 
+    fn some_cut(&self) -> Option<Cut> {
+        if self.images.is_multiple_of(8) { Some(Cut::Random) } else { None }
+    }
+
+    /// The image gets a manufacturing block of its own first, as far as it reaches: one with an ASCII part number.
     fn see_cut(&mut self, image: &[u8], cut: Option<Cut>) {
+        let mut copy = std::mem::take(&mut self.image);
+        copy.clear();
+        copy.extend_from_slice(image);
+        let mut rng = self.rng();
+        put_block(&mut copy, &mut rng);
+        self.judge(&copy, cut, &mut rng);
+        self.image = copy;
+    }
+
+    /// An image that has its block.
+    fn see_block(&mut self, image: &[u8]) {
+        self.judge(image, self.some_cut(), &mut self.rng());
+    }
+
+    /// What is random about the image at hand beside itself.
+    fn rng(&self) -> Rng {
+        Rng::new(!self.seed, self.images)
+    }
+
+    fn judge(&mut self, image: &[u8], cut: Option<Cut>, rng: &mut Rng) {
         assert!(image.iter().skip(PROFILES).all(|&b| b == 0), "an image may have a vendor profile");
-        let ours = Answers::of_image(image);
+        let ours = Answers::of_image(image, rng.pick(&manufacturing::STRICT));
         match compare::compare(image, &ours) {
             Ok(Verdict::Same) => {}
             Ok(Verdict::ShortImage) => self.short += 1,
             Ok(Verdict::OtherType) => self.other += 1,
             Err(item) => self.difference(image, &item),
         }
+        match manufacturing::compare(image, &ours.block) {
+            Ok(manufacturing::Verdict::Same) => {}
+            Ok(manufacturing::Verdict::PartCut) => self.part_cut += 1,
+            Ok(manufacturing::Verdict::NotAscii) => self.not_ascii += 1,
+            Ok(manufacturing::Verdict::ZeroPadded) => self.zero_padded += 1,
+            Err(item) => self.difference(image, &item),
+        }
         if let Some(cut) = cut
             && image.len() <= ours::IMAGE_MAX
         {
             self.fed += 1;
-            let mut rng = Rng::new(!self.seed, self.images);
-            if let Err(item) = compare::feed(image, cut, &mut rng, &ours) {
+            if let Err(item) = compare::feed(image, cut, rng, &ours) {
                 self.difference(image, &item);
             }
         }
@@ -102,6 +149,15 @@ impl Judge {
         for code in codes {
             self.findings[usize::from(code.min(9))] += 1;
         }
+        if let (Some(len), strict) = ours.block.outline() {
+            self.parts[len.min(30)] += 1;
+            self.strict += u64::from(strict);
+        }
+    }
+
+    /// How many manufacturing blocks decoded.
+    fn blocks(&self) -> u64 {
+        self.parts.iter().sum()
     }
 
     fn difference(&mut self, image: &[u8], item: &str) {
@@ -142,14 +198,14 @@ fn bases() -> Vec<[u8; PROFILES]> {
     all
 }
 
-/// All values of each byte that identity reads, on every base, long enough by much, just, and not.
+/// All values of each byte that identity reads, on every base, long enough with a manufacturing block and without, just, and not.
 fn codes(judge: &mut Judge) {
     for base in bases() {
         for offset in [0, 1, 2, 3, 4, 5, 6, 7, 234, 235] {
             for value in 0..=255 {
                 let mut image = base;
                 image[offset] = value;
-                for len in [512, 236, 235] {
+                for len in [PROFILES, 512, 236, 235] {
                     judge.see(&image[..len]);
                 }
             }
@@ -164,7 +220,7 @@ fn device_counts(judge: &mut Judge) {
         for bus in 0..=255 {
             image[6] = width;
             image[235] = bus;
-            judge.see(&image[..512]);
+            judge.see(&image);
         }
     }
 }
@@ -193,7 +249,7 @@ fn reserved_bytes(judge: &mut Judge) {
                         judge.see(&image[..cut]);
                     }
                 }
-                judge.see(&image[..512]);
+                judge.see(&image);
             }
         }
     }
@@ -208,7 +264,7 @@ fn reserved_pairs(judge: &mut Judge) {
                 let mut image = base;
                 image[one] = 3;
                 image[two] = 5;
-                judge.see(&image[..512]);
+                judge.see(&image);
             }
         }
     }
@@ -227,7 +283,7 @@ fn cycle_times(judge: &mut Judge) {
                         let mut image = base;
                         put16(&mut image, one, a);
                         put16(&mut image, two, b);
-                        judge.see(&image[..512]);
+                        judge.see(&image);
                     }
                 }
             }
@@ -241,7 +297,7 @@ fn every_time(judge: &mut Judge) {
         let mut image = bases()[0];
         for time in 0..=65_535 {
             put16(&mut image, offset, time);
-            judge.see(&image[..512]);
+            judge.see(&image);
         }
     }
 }
@@ -253,7 +309,7 @@ fn cas_bits(judge: &mut Judge) {
         put_cas(&mut image, 1 << bit);
         for cl in 0..=65_535 / 416 {
             put16(&mut image, 30, cl * 416);
-            judge.see(&image[..512]);
+            judge.see(&image);
         }
     }
 }
@@ -271,25 +327,56 @@ fn burst(image: &[u8], at: usize, kind: usize) -> Vec<u8> {
 
 /// Bursts at every byte offset (so at every sixteenth too), whole and in pieces that are cut where the burst is.
 fn bursts(judge: &mut Judge) {
+    const LEN: usize = 576;
     for base in &bases()[..4] {
-        for at in 0..=512 - 16 {
+        for at in 0..=LEN - 16 {
             for kind in 0..4 {
-                let image = burst(&base[..512], at, kind);
+                let image = burst(&base[..LEN], at, kind);
                 judge.see_cut(&image, Some(Cut::Bursts(at % 16)));
             }
         }
-        judge.see_cut(&base[..512], Some(Cut::Whole));
+        judge.see_cut(&base[..LEN], Some(Cut::Whole));
+    }
+}
+
+/// All pairs of the two date bytes, on images that just hold their block.
+fn dates(judge: &mut Judge) {
+    let mut image = bases()[0];
+    for year in 0..=255 {
+        for week in 0..=255 {
+            put_block(&mut image, &mut judge.rng());
+            image[DATE].copy_from_slice(&[year, week]);
+            judge.see_block(&image[..BLOCK.end]);
+        }
+    }
+}
+
+/// Part numbers that are not ASCII alone: every byte as the last of so many, spaces or zero bytes behind it. Some images end with their part number.
+fn part_numbers(judge: &mut Judge) {
+    let mut image = bases()[0];
+    for (len, pad) in [(PROFILES, b' '), (PROFILES, 0), (PART.end, b' ')] {
+        for count in 1..=PART.len() {
+            for last in 0..=255 {
+                put_block(&mut image, &mut judge.rng());
+                let part = &mut image[PART];
+                part[count - 1] = last;
+                part[count..].fill(pad);
+                judge.see_block(&image[..len]);
+            }
+        }
     }
 }
 
 /// Lengths at which something changes.
-const BOUNDARIES: [usize; 14] = [0, 16, 30, 94, 128, 192, 230, 236, 240, 510, 512, 640, 1024, 2048];
+const BOUNDARIES: [usize; 17] = [0, 16, 30, 94, 128, 192, 230, 236, 240, 510, 512, 521, 551, 555, 640, 1024, 2048];
 
 fn some_length(rng: &mut Rng) -> usize {
-    match rng.below(8) {
-        0..4 => 512,
-        4..6 => (rng.pick(&BOUNDARIES) + rng.below(5)).saturating_sub(2),
-        6 => 236 + rng.below(405),
+    match rng.below(10) {
+        0..2 => 512,
+        2..5 => PROFILES,
+        5 => BLOCK.start - 1 + rng.below(BLOCK.len() + 3),
+        6..8 => (rng.pick(&BOUNDARIES) + rng.below(5)).saturating_sub(2),
+        8 => 236 + rng.below(405),
         _ => rng.below(ours::IMAGE_MAX + 1),
     }
 }
@@ -363,9 +450,16 @@ fn untried(judge: &Judge) -> Vec<String> {
         ("an image in pieces", judge.fed),
         ("row 1 of docs/DIFFERENCES.md", judge.short),
         ("row 2 of docs/DIFFERENCES.md", judge.other),
+        ("row 6 of docs/DIFFERENCES.md", judge.part_cut),
+        ("row 7 of docs/DIFFERENCES.md", judge.not_ascii),
+        ("row 8 of docs/DIFFERENCES.md", judge.zero_padded),
+        ("a date that the strict mode takes", judge.strict),
+        ("a date that it refuses", judge.blocks() - judge.strict),
     ];
     let codes = (1..9).map(|code| (format!("code {code}"), judge.findings[code]));
-    seen.into_iter().map(|(what, n)| (what.to_string(), n)).chain(codes).filter(|(_, n)| *n == 0).map(|(what, _)| what).collect()
+    let parts = judge.parts.into_iter().enumerate().map(|(len, n)| (format!("a part number of {len} characters"), n));
+    let all = seen.into_iter().map(|(what, n)| (what.to_string(), n)).chain(codes).chain(parts);
+    all.filter(|(_, n)| *n == 0).map(|(what, _)| what).collect()
 }
 
 fn arguments() -> Option<(u64, u64)> {
@@ -390,16 +484,23 @@ fn main() -> ExitCode {
     judge.family("every time", every_time);
     judge.family("CAS bits", cas_bits);
     judge.family("bursts", bursts);
+    judge.family("dates", dates);
+    judge.family("part numbers", part_numbers);
     judge.family("random", random);
     let codes: Vec<String> = (1..10).map(|code| format!("{} of code {code}", judge.findings[code])).collect();
     eprintln!("judge: {} identities and {} timings decoded; findings: {}", judge.identities, judge.timings, codes.join(", "));
+    eprintln!("judge: {} manufacturing blocks decoded, {} of them in the strict mode too", judge.blocks(), judge.strict);
     println!(
         "judge: {} images, {} of them in pieces too, {} listed (row 1, short images), {} listed (row 2, other device types), \
+         {} listed (row 6, cut part numbers), {} listed (row 7, part numbers not ASCII), {} listed (row 8, zero bytes behind them), \
          {} differences, seed {}, {} s",
         judge.images,
         judge.fed,
         judge.short,
         judge.other,
+        judge.part_cut,
+        judge.not_ascii,
+        judge.zero_padded,
         judge.differences,
         judge.seed,
         judge.started.elapsed().as_secs()

@@ -8,8 +8,10 @@ use std::ffi::c_void;
 
 pub const REPORT_MAX: usize = 215;
 pub const REPORT_NUMBERS: usize = 91;
-pub const STATE_SIZE: usize = 512;
+pub const STATE_SIZE: usize = 557;
 pub const IMAGE_MAX: usize = 2048;
+pub const MANUFACTURING_COUNT: usize = 11;
+pub const PART_NUMBER_MAX: usize = 30;
 
 mod c {
     unsafe extern "C" {
@@ -19,6 +21,8 @@ mod c {
         pub fn roostcord_timings(image: *const u8, n: usize, out: *mut u32, room: usize) -> i32;
         pub fn roostcord_cas_latencies(image: *const u8, n: usize, out: *mut u16, room: usize) -> i32;
         pub fn roostcord_clocks(image: *const u8, n: usize, out: *mut u32, room: usize) -> i32;
+        pub fn roostcord_manufacturing(image: *const u8, n: usize, strict: u32, out: *mut u32, room: usize) -> i32;
+        pub fn roostcord_part_number(image: *const u8, n: usize, out: *mut u8, room: usize) -> i32;
         pub fn roostcord_pieces_fresh(state: *mut u8, n: usize) -> i32;
         pub fn roostcord_pieces_feed(state: *mut u8, n: usize, offset: usize, piece: *const u8, piece_len: usize) -> i32;
         pub fn roostcord_pieces_taken(state: *const u8, n: usize) -> i32;
@@ -27,6 +31,8 @@ mod c {
         pub fn roostcord_pieces_timings(state: *const u8, n: usize, out: *mut u32, room: usize) -> i32;
         pub fn roostcord_pieces_cas_latencies(state: *const u8, n: usize, out: *mut u16, room: usize) -> i32;
         pub fn roostcord_pieces_clocks(state: *const u8, n: usize, out: *mut u32, room: usize) -> i32;
+        pub fn roostcord_pieces_manufacturing(state: *const u8, n: usize, strict: u32, out: *mut u32, room: usize) -> i32;
+        pub fn roostcord_pieces_part_number(state: *const u8, n: usize, out: *mut u8, room: usize) -> i32;
     }
 }
 
@@ -48,11 +54,26 @@ questions! {
     timings = roostcord_timings(u32);
     cas_latencies = roostcord_cas_latencies(u16);
     clocks = roostcord_clocks(u32);
+    part_number = roostcord_part_number(u8);
     pieces_lint = roostcord_pieces_lint(u8);
     pieces_identity = roostcord_pieces_identity(u32);
     pieces_timings = roostcord_pieces_timings(u32);
     pieces_cas_latencies = roostcord_pieces_cas_latencies(u16);
     pieces_clocks = roostcord_pieces_clocks(u32);
+    pieces_part_number = roostcord_pieces_part_number(u8);
+}
+
+/// The two questions that have a mode: strict is any number but 0.
+#[inline(always)]
+pub fn manufacturing(image: &[u8], strict: u32, out: &mut [u32]) -> i32 {
+    // SAFETY: both slices are valid for their lengths, aligned, and the second is borrowed alone.
+    unsafe { c::roostcord_manufacturing(image.as_ptr(), image.len(), strict, out.as_mut_ptr(), out.len()) }
+}
+
+#[inline(always)]
+pub fn pieces_manufacturing(state: &[u8], strict: u32, out: &mut [u32]) -> i32 {
+    // SAFETY: as above.
+    unsafe { c::roostcord_pieces_manufacturing(state.as_ptr(), state.len(), strict, out.as_mut_ptr(), out.len()) }
 }
 
 #[inline(always)]
@@ -73,7 +94,7 @@ pub fn pieces_taken(state: &[u8]) -> i32 {
     unsafe { c::roostcord_pieces_taken(state.as_ptr(), state.len()) }
 }
 
-pub const SYMBOLS: usize = 14;
+pub const SYMBOLS: usize = 18;
 
 /// Every call by its name, for measuring its stack.
 pub fn symbols() -> [(&'static str, *const c_void); SYMBOLS] {
@@ -87,6 +108,8 @@ pub fn symbols() -> [(&'static str, *const c_void); SYMBOLS] {
         roostcord_timings,
         roostcord_cas_latencies,
         roostcord_clocks,
+        roostcord_manufacturing,
+        roostcord_part_number,
         roostcord_pieces_fresh,
         roostcord_pieces_feed,
         roostcord_pieces_taken,
@@ -94,6 +117,8 @@ pub fn symbols() -> [(&'static str, *const c_void); SYMBOLS] {
         roostcord_pieces_identity,
         roostcord_pieces_timings,
         roostcord_pieces_cas_latencies,
-        roostcord_pieces_clocks
+        roostcord_pieces_clocks,
+        roostcord_pieces_manufacturing,
+        roostcord_pieces_part_number
     ]
 }
