@@ -325,8 +325,8 @@ fn print_machine() {
         total as f64 / FIXED as f64
     );
     println!(
-        "- manufacturing: the mixed images with a block behind them, {PROFILES} bytes in all; part numbers of 0 to 30 ASCII characters, \
-         of which ours has the length and the Rust the text"
+        "- manufacturing: the mixed images with a block behind them, {PROFILES} bytes in all; part numbers of 0 to 30 ASCII characters: ours \
+         hands back the length of one without its spaces, the Rust the text"
     );
     println!(
         "- fixed: {FIXED} images in one order over and over; shuffled: {SHUFFLED} images, an order that is new in each round"

@@ -34,7 +34,8 @@ use spdr::{DecodeError, Finding, Severity, TimingPair, Timings, Xmp};
 use std::collections::{BTreeMap, BTreeSet};
 use std::io::Write;
 
-const SOUND: &[u8] = include_bytes!("../samples/ddr5-4800.bin");
+/// The sample without its manufacturing block: no answer in the list is of a byte past 511 but a rated profile's.
+const SOUND: &[u8] = include_bytes!("../samples/ddr5-4800.bin").split_at(512).0;
 const MARK: usize = 640;
 const MARKED: usize = 672;
 const REGIONS: [(usize, usize); 7] = [(15, 1), (29, 1), (103, 25), (128, 64), (214, 16), (236, 4), (448, 62)];
