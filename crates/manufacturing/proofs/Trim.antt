@@ -1,8 +1,8 @@
 -- The laws of `trimmed`: it leaves out the spaces that end a list and nothing else. Then the turns of the loop that finds its length.
 -- Assumes nothing.
-use Prim.Native.Nat.{ℕ, suc, _+_, _-_, _<_, _≤_}
+use Prim.Native.Nat.{ℕ, zero, suc, _+_, _-_, _<_, _≤_}
 use mathlib.Core.Path.{_≡_, refl, ap, sym, _∙_}
-use mathlib.Core.List.{List, [], _∷_, _++_}
+use mathlib.Core.List.{List, [], _∷_, _++_, append-nil, append-assoc}
 use native.Mathlib.Omega.{arith}
 use lib.Dec.{eqb, ltb}
 use lib.ListN.{length, take, drop, getD, replicate, length-append, length-drop}
@@ -68,6 +68,20 @@ trim-other : (l : List ℕ) (b : ℕ) → (b ≡ 32 → ⊥) → trimmed (l ++ (
 unfolding trimmed
 trim-other [] b n = rw (ne-eqb b 32 n)
 trim-other (x ∷ l) b n = ap (before x) (trim-other l b n) ∙ in-front x l b
+
+-- no other bytes are so
+trim-spaces : (t : List ℕ) (n : ℕ) → trimmed (t ++ replicate n 32) ≡ trimmed t
+trim-spaces t zero = ap trimmed (append-nil t)
+trim-spaces t (suc n) = ap trimmed (sym (append-assoc t (32 ∷ []) (replicate n 32))) ∙ trim-spaces (t ++ (32 ∷ [])) n ∙ trim-space t
+
+trim-same : (t : List ℕ) → ((p : List ℕ) → t ≡ p ++ (32 ∷ []) → ⊥) → trimmed t ≡ t
+unfolding trimmed
+trim-same [] h = refl
+trim-same (b ∷ []) h = rw (ne-eqb b 32 (λ e. h [] (λ i. e i ∷ [])))
+trim-same (b ∷ x ∷ t) h = ap (before b) (trim-same (x ∷ t) (λ p e. h (b ∷ p) (λ i. b ∷ e i)))
+
+pub trimmed-once : (l t : List ℕ) → Trimmed l t → t ≡ trimmed l
+trimmed-once l t h = sym (ap trimmed (h .all) ∙ trim-spaces t (h .spaces) ∙ trim-same t (h .ends))
 
 -- a turn: of the first n bytes the last is looked at
 module _ (l : List ℕ) (n : ℕ) (pos : 0 < n) (fits : n ≤ length l) where
