@@ -1,7 +1,9 @@
 -- The view of an image made from a few bytes, which computes without walking the list of all its bytes. Assumes nothing.
-use Prim.Native.Nat.{ℕ, zero, suc, zero-le, suc-le-suc}
+use Prim.Native.Nat.{ℕ, zero, suc, zero-le, suc-le-suc, _≤_}
 use mathlib.Core.Path.{_≡_, refl, ap}
-use lib.ListN.{length, getD}
+use mathlib.Core.List.{List, [], _∷_}
+use native.Mathlib.Omega.{arith}
+use lib.ListN.{length, getD, take}
 use lib.Dec.{ltb, leb·suc-suc, leb·suc-zero}
 use borrow.Author.Tests.{lt-ltb}
 use Rattle.reading.specs.Pick.{pick}
@@ -21,6 +23,13 @@ unfolding firsts
 getD-firsts zero f i = rw (leb·suc-zero i)
 getD-firsts (suc n) f zero = rw (lt-ltb 0 (suc n) (suc-le-suc zero-le))
 getD-firsts (suc n) f (suc i) = rw (leb·suc-suc (suc i) n) (getD-firsts n (λ j. f (suc j)) i)
+
+-- as many bytes of the front of a list as it has
+pub front-is : (n : ℕ) (s : List ℕ) → n ≤ length s → take n s ≡ firsts n (λ i. getD s i 0)
+unfolding firsts
+front-is zero s h = refl
+front-is (suc n) [] h = absurd (omega arith)
+front-is (suc n) (x ∷ s) h = ap (λ (l : List ℕ). x ∷ l) (front-is n s (omega arith))
 
 pub view-made : (image : Image) → view (bytesOf image) ≡ made image
 view-made image i =

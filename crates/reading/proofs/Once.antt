@@ -5,7 +5,7 @@ use lib.Dec.{eqb}
 use Rattle.reading.specs.Pick.{pick}
 use Rattle.reading.specs.Said.{Told, told, Said, gives, refuses}
 use Rattle.reading.specs.declared.Refusal.{Refusal}
-use Rattle.reading.specs.declared.Refusal.the-variants.{Truncated, NotDdr5, UnknownEnum, ListTooShort, WrongOffset, TooLong, ZeroClock, BufferTooSmall, ReportCut, ReportVersion, ReportMalformed, NotReportable, StrictDate}
+use Rattle.reading.specs.declared.Refusal.the-variants.{Truncated, NotDdr5, UnknownEnum, ListTooShort, WrongOffset, TooLong, ZeroClock, BufferTooSmall, ReportCut, ReportVersion, ReportMalformed, NotReportable, StrictDate, NeitherSound}
 
 -- the refusal that a number and its values stand for
 abbrev untold : Told → Refusal
@@ -22,7 +22,8 @@ untold t =
     (pick (eqb (t .number) 10) ReportVersion
     (pick (eqb (t .number) 11) ReportMalformed
     (pick (eqb (t .number) 12) NotReportable
-    StrictDate)))))))))))
+    (pick (eqb (t .number) 13) StrictDate
+    NeitherSound))))))))))))
 
 pub untold-told : (why : Refusal) → untold (told why) ≡ why
 untold-told (Truncated n) = refl
@@ -38,6 +39,7 @@ untold-told ReportVersion = refl
 untold-told ReportMalformed = refl
 untold-told NotReportable = refl
 untold-told StrictDate = refl
+untold-told NeitherSound = refl
 
 -- an answer whose cases are a value and a refusal, read back
 abbrev pub unsaid : {A E : Type 0} → (A → E) → (Refusal → E) → Said A → E

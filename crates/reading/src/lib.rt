@@ -34,6 +34,8 @@ pub enum Refusal {
     NotReportable,
     // In the strict mode, a date that is not decimal digits or whose week is not 1 to 53.
     StrictDate,
+    // Of two reads neither is long enough and has a CRC that fits.
+    NeitherSound,
 }
 
 impl Refusal {
@@ -55,6 +57,7 @@ impl Refusal {
             Refusal::ReportMalformed => 11,
             Refusal::NotReportable => 12,
             Refusal::StrictDate => 13,
+            Refusal::NeitherSound => 21,
         }
     }
 
@@ -76,6 +79,7 @@ impl Refusal {
             Refusal::ReportMalformed => 0,
             Refusal::NotReportable => 0,
             Refusal::StrictDate => 0,
+            Refusal::NeitherSound => 0,
         }
     }
 
@@ -97,6 +101,7 @@ impl Refusal {
             Refusal::ReportMalformed => 0,
             Refusal::NotReportable => 0,
             Refusal::StrictDate => 0,
+            Refusal::NeitherSound => 0,
         }
     }
 
@@ -118,6 +123,7 @@ impl Refusal {
             Refusal::ReportMalformed => 0,
             Refusal::NotReportable => 0,
             Refusal::StrictDate => 0,
+            Refusal::NeitherSound => 0,
         }
     }
 }
