@@ -4,14 +4,14 @@ use Prim.Native.Nat.{ℕ, zero, suc, _+_, _-_, _<_, _≤_}
 use mathlib.Core.Path.{_≡_, refl, ap, sym, _∙_}
 use mathlib.Core.List.{List, [], _∷_, _++_, append-nil, append-assoc}
 use native.Mathlib.Omega.{arith}
-use lib.Dec.{eqb, ltb}
+use lib.Dec.{eqb}
 use lib.ListN.{length, take, drop, getD, replicate, length-append, length-drop}
-use lib.Seq.{take-suc, take-append-seam, length-take-le, getD-take, getD-drop, ext-getD}
-use borrow.Author.Tests.{eqb-true, eqb-false, ne-eqb, lt-ltb}
+use lib.Seq.{take-suc, take-append-seam, length-take-le, getD-drop}
+use borrow.Author.Tests.{eqb-true, eqb-false, ne-eqb}
 use Rattle.reading.specs.View.{view}
 use Rattle.reading.specs.Made.{firsts}
-use Rattle.reading.proofs.Made.{length-firsts, getD-firsts}
-use Rattle.reading.proofs.Picked.{by-test, if-so}
+use Rattle.reading.proofs.Made.{length-firsts, front-is}
+use Rattle.reading.proofs.Picked.{by-test}
 use Rattle.reading.specs.Ranges.{missingAt, reachOf}
 use Rattle.reading.proofs.Reach.{by-missing, none-missing, cut}
 use Rattle.manufacturing.specs.Block.{manufacturingRanges}
@@ -103,13 +103,7 @@ none l e = rw e
 -- the thirty bytes are a part of an image that has them
 pub field-is : (s : List ℕ) → 551 ≤ length s → take 30 (drop 521 s) ≡ fieldAt (view s)
 unfolding fieldAt
-field-is s h =
-    let n : length (take 30 (drop 521 s)) ≡ 30 = length-take-le 30 (drop 521 s) (omega (arith, length-drop 521 s)) in
-    ext-getD 0 (take 30 (drop 521 s)) (firsts 30 (λ i. getD s (521 + i) 0)) (n ∙ sym (length-firsts 30 (λ i. getD s (521 + i) 0)))
-    (λ i k.
-    let k′ : i < 30 = omega arith in
-    getD-take 30 (drop 521 s) i 0 k′ ∙ getD-drop 521 s i 0
-    ∙ sym (getD-firsts 30 (λ j. getD s (521 + j) 0) i ∙ if-so (ltb i 30) (getD s (521 + i) 0) 0 (lt-ltb i 30 k′)))
+field-is s h = front-is 30 (drop 521 s) (omega (arith, length-drop 521 s)) ∙ (λ j. firsts 30 (λ i. getD-drop 521 s i 0 j))
 
 -- the part number never has more than thirty bytes
 pub part-few : (s : List ℕ) → length (partOf s) ≤ 30
