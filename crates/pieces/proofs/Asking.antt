@@ -20,6 +20,8 @@ use Rattle.manufacturing.specs.Block.{manufacturingRanges, manufacturingOf}
 use Rattle.manufacturing.specs.Part.{partOf, partKeptOf}
 use Rattle.manufacturing.specs.declared.DateMode.{DateMode}
 use Rattle.manufacturing.proofs.Reach.{manufacturing-reach, part-reach, part-kept-reach}
+use Rattle.crc.specs.Base.{crcRanges, baseCrcOf}
+use Rattle.crc.proofs.Reach.{crc-reach}
 use Rattle.findings.specs.Hold.{holding}
 use Rattle.rules.specs.Lint.{findingsOf, lintOf}
 use Rattle.rules.proofs.Reach.{lint-reach}
@@ -84,6 +86,10 @@ module _ (cs : List Call) where
   pub run-part-kept : partKeptOf (keptOf (run cs)) ≡ partKeptOf (image cs)
   unfolding partKeptOf
   run-part-kept = asked-run (within-more (reachOf manufacturingRanges) keptBytes (omega arith) part-kept-reach) cs
+
+  pub run-crc : baseCrcOf (keptOf (run cs)) ≡ baseCrcOf (image cs)
+  unfolding baseCrcOf
+  run-crc = asked-run (within-more (reachOf crcRanges) keptBytes (omega arith) crc-reach) cs
 
   pub run-findings : findingsOf (keptOf (run cs)) ≡ findingsOf (image cs)
   run-findings = asked-run (within-more 510 keptBytes (omega arith) lint-reach) cs

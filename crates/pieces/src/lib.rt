@@ -9,9 +9,11 @@ ghost use Rattle.decoders.specs.Identity.{identityOf};
 ghost use Rattle.decoders.specs.Timing.{timingsOf};
 ghost use Rattle.manufacturing.specs.Block.{manufacturingSaid, manufacturingOf};
 ghost use Rattle.manufacturing.specs.Part.{partKeptOf};
+ghost use Rattle.crc.specs.Base.{crcSaid, baseCrcOf};
 ghost use Rattle.rules.specs.Lint.{lintSaid, lintOf, lintAnswerSaid, lintAnswerOf, findingsOf};
 ghost use Rattle.pieces.specs.Fed.{freshPieces, overlaid, feedSaid, fedSaid, acceptedAt, fedBy, keptOf};
 ghost use Rattle.pieces.specs.Laying.{withEight};
+use crc::CrcAnswer;
 use decoders::identity::IdentityAnswer;
 use decoders::timing::TimingsAnswer;
 use findings::Finding;
@@ -114,6 +116,14 @@ impl Pieces {
     {
         let kept = self.kept;
         manufacturing::part_number_kept(arrived(&kept, self.taken))
+    }
+
+    // The CRC is checked on the bytes that were taken, not on a copy of the reader's.
+    pub fn verify_base_crc(self) -> CrcAnswer
+        ensures { λ r. ⌜ crcSaid r ≡ baseCrcOf (keptOf self) ⌝ }
+    {
+        let kept = self.kept;
+        crc::verify_base_crc(arrived(&kept, self.taken))
     }
 
     pub fn lint_image(self) -> Linted
