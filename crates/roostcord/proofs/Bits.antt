@@ -24,13 +24,15 @@ use Rattle.manufacturing.specs.Block.{manufacturingRanges, manufacturingAt, man
 use Rattle.manufacturing.specs.declared.DateMode.{DateMode}
 use Rattle.manufacturing.specs.declared.DateMode.the-variants.{AsIs}
 use Rattle.manufacturing.proofs.Refused.{manufacturing-refusals}
+use Rattle.crc.specs.Base.{crcRanges, baseCrcOf, soundIn, soundReadOf}
+use Rattle.crc.proofs.Refused.{crc-refusals}
 use Rattle.rules.specs.Lint.{findingsOf}
 use Rattle.rules.specs.Table.{allIn}
 use Rattle.report.specs.Form.{restOf, findingsIn}
 use Rattle.report.specs.Read.{lengthIn, contentOf}
 use Rattle.report.specs.Write.{lintReportOf}
 use Rattle.pieces.specs.Fed.{keptBytes, acceptedAt, longest}
-use Rattle.roostcord.specs.Numbers.{identityList, timingsList, casNumbers, clocksList, modeOf, manufacturingList, partList, reportList, listedIn}
+use Rattle.roostcord.specs.Numbers.{crcNumber, identityList, timingsList, casNumbers, clocksList, modeOf, manufacturingList, partList, reportList, listedIn}
 use Rattle.roostcord.specs.Word.{refusalWord}
 use Rattle.roostcord.specs.State.{short, countIn, arrivedIn, asked, freshIn, feedIn, takenIn}
 use Rattle.roostcord.proofs.Once.{InBits, word-once}
@@ -86,6 +88,16 @@ content-fits s =
     plain))))
     plain)))
 
+-- ---- the calls that write nothing
+pub crc-bits : (s : List ℕ) → Fits (crcNumber s)
+unfolding crcNumber baseCrcOf
+crc-bits s =
+    on-fits (baseCrcOf s) _ (crc-refusals (view s) Small (λ i e. (omega (arith, named-before crcRanges (view s) i e), omega arith))) (λ fits. tt)
+
+pub sound-bits : (first second : List ℕ) → Fits (soundReadOf first second)
+unfolding soundReadOf
+sound-bits first second = either Fits (soundIn first) tt (either Fits (soundIn second) tt plain)
+
 -- ---- the calls on an image, and on a report
 module _ (s : List ℕ) (room : ℕ) where
   pub lint-bits : Fits (lintReportOf s room)
@@ -139,6 +151,9 @@ module _ (s : List ℕ) where
   pub taken-bits : Fits (takenIn s)
   unfolding takenIn
   taken-bits = asked-bits (gives (countIn s)) tt
+
+  pub state-crc-bits : Fits (asked s (crcNumber (arrivedIn s)))
+  state-crc-bits = asked-bits _ (crc-bits (arrivedIn s))
 
   pub arrived-bytes : AllBytes s → AllBytes (arrivedIn s)
   arrived-bytes h =

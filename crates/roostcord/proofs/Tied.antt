@@ -16,11 +16,11 @@ use Rattle.pieces.specs.Fed.{keptBytes, longest, overlaid, Feeding, acceptedAt,
 use Rattle.pieces.specs.Run.{Call, runFrom, run, image, answersFrom, saidFrom}
 use Rattle.pieces.proofs.Accepting.{given, by-answer}
 use Rattle.pieces.proofs.Running.{run-holds, run-says}
-use Rattle.pieces.proofs.Asking.{run-identity, run-timings, run-manufacturing, run-part, run-findings}
+use Rattle.pieces.proofs.Asking.{run-identity, run-timings, run-manufacturing, run-part, run-crc, run-findings}
 use Rattle.report.specs.Write.{lintReportOf, lintReportAfter}
 use Rattle.roostcord.specs.Word.{wordOf}
 use Rattle.manufacturing.specs.declared.DateMode.the-variants.{AsIs}
-use Rattle.roostcord.specs.Numbers.{identityList, timingsList, casNumbers, clocksList, modeOf, manufacturingList, partList}
+use Rattle.roostcord.specs.Numbers.{crcNumber, identityList, timingsList, casNumbers, clocksList, modeOf, manufacturingList, partList}
 use Rattle.roostcord.specs.State.{stateSize, short, countIn, stateIn, stateBytes, arrivedIn, asked, freshAfter, feedIn, feedAfter, takenIn, fedBytes, saidBytes}
 use Rattle.roostcord.proofs.Answers.{Question, listing, reporting}
 
@@ -176,6 +176,10 @@ module _ (cs : List Call) (s : List ℕ) (h : stateSize ≤ length s) where
   unfolding partList
   fed-part = ap partList fed-arrived ∙ rw (run-manufacturing cs AsIs, run-part cs)
 
+  pub fed-crc : crcNumber (arrivedIn fed) ≡ crcNumber (image cs)
+  unfolding crcNumber
+  fed-crc = ap crcNumber fed-arrived ∙ rw (run-crc cs)
+
   pub fed-lint : (room : ℕ) → lintReportOf (arrivedIn fed) room ≡ lintReportOf (image cs) room
   unfolding lintReportOf
   fed-lint room = ap (λ (b : List ℕ). lintReportOf b room) fed-arrived ∙ rw (run-findings cs)
@@ -215,6 +219,9 @@ module _ (cs : List Call) (s : List ℕ) (h : stateSize ≤ length s) where
 
     pub ask-part : AsImage (listing 30 partList out) out
     ask-part = listed-as 30 partList out fed-part
+
+  pub ask-crc : asked fed (crcNumber (arrivedIn fed)) ≡ crcNumber (image cs)
+  ask-crc = rw fed-whole fed-crc
 
   pub ask-taken : takenIn fed ≡ gives (length (image cs))
   unfolding takenIn

@@ -17,6 +17,7 @@ use Rattle.manufacturing.specs.Part.{partOf}
 use Rattle.manufacturing.specs.declared.DateMode.{DateMode}
 use Rattle.manufacturing.specs.declared.DateMode.the-variants.{AsIs, Strict}
 use Rattle.manufacturing.specs.declared.Manufacturing.{Manufacturing}
+use Rattle.crc.specs.Base.{baseCrcOf}
 use Rattle.findings.specs.declared.Finding.{Finding}
 use Rattle.findings.specs.Same.{severityNumber}
 use Rattle.report.specs.Read.{Content, contentOf}
@@ -136,6 +137,10 @@ manufacturingList strict s = onward refuses (manufacturingOf (modeOf strict) s) 
 -- the part number's bytes, or the refusal of the block as it is
 unfoldable pub partList : List ℕ → Said (List ℕ)
 partList s = onward refuses (manufacturingOf AsIs s) (λ m. gives (partOf s))
+
+-- the check of the base block: 1 where its CRC fits, 0 where it does not, or the refusal
+unfoldable pub crcNumber : List ℕ → Said ℕ
+crcNumber s = onward refuses (baseCrcOf s) (λ fits. gives (bit fits))
 
 -- the numbers of a report, or the reader's refusal
 unfoldable pub reportList : List ℕ → Said (List ℕ)

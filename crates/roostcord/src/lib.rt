@@ -8,10 +8,13 @@ ghost use Rattle.reading.specs.Pick.{pick};
 ghost use Rattle.reading.specs.Said.{told};
 ghost use Rattle.reading.specs.Lent.{laid};
 ghost use Rattle.decoders.specs.Identity.{wholeOf};
+ghost use Rattle.crc.specs.Base.{soundReadOf};
 ghost use Rattle.report.specs.Write.{lintReportOf, lintReportAfter};
 ghost use Rattle.roostcord.specs.Word.{refusalWord, wordOf, libraryVersion};
-ghost use Rattle.roostcord.specs.Numbers.{identityNumbers, timingNumbers, clockNumbers, reportNumbers, identityList, timingsList, casNumbers, clocksList, manufacturingNumbers, modeOf, manufacturingList, partList, reportList, listedIn, listAfter};
+ghost use Rattle.roostcord.specs.Numbers.{crcNumber, identityNumbers, timingNumbers, clockNumbers, reportNumbers, identityList, timingsList, casNumbers, clocksList, manufacturingNumbers, modeOf, manufacturingList, partList, reportList, listedIn, listAfter};
 ghost use Rattle.roostcord.specs.State.{stateSize, countIn, arrivedIn, asked, short, freshIn, freshAfter, feedIn, feedAfter, takenIn};
+use crc::CrcAnswer;
+use crc::SoundRead;
 use decoders::clocks::ClockTable;
 use decoders::clocks::ClockTableAnswer;
 use decoders::identity::Base;
@@ -42,7 +45,7 @@ const STATE_SIZE: usize = 2 + KEPT;
 pub extern "C" fn roostcord_version() -> u32
     ensures { λ r. ⌜ r ≡ libraryVersion ⌝ }
 {
-    0x010200
+    0x010300
 }
 
 // Lints an image and writes its report: how many bytes.
@@ -215,6 +218,34 @@ pub extern "C" fn roostcord_part_number(image: &[u8], out: &mut [u8]) -> i32
     }
 }
 
+// Whether the CRC of an image's base block matches the one that is stored behind it: 1 or 0.
+#[no_mangle]
+pub extern "C" fn roostcord_crc(image: &[u8]) -> i32
+    ensures { λ r. ⌜ r ≡ wordOf (crcNumber (now (image .entry))) ⌝ }
+{
+    match crc::verify_base_crc(image) {
+        CrcAnswer::Matches(matches) => {
+            if matches {
+                return 1;
+            }
+            0
+        }
+        CrcAnswer::Refused(why) => refusal_word(why),
+    }
+}
+
+// Which of two reads is long enough and has a CRC that fits: 1 or 2, the first where both do.
+#[no_mangle]
+pub extern "C" fn roostcord_sound_read(first: &[u8], second: &[u8]) -> i32
+    ensures { λ r. ⌜ r ≡ wordOf (soundReadOf (now (first .entry)) (now (second .entry))) ⌝ }
+{
+    match crc::sound_read(first, second) {
+        SoundRead::First => 1,
+        SoundRead::Second => 2,
+        SoundRead::Refused(why) => refusal_word(why),
+    }
+}
+
 // Makes the first bytes a state that has taken nothing.
 #[no_mangle]
 pub extern "C" fn roostcord_pieces_fresh(state: &mut [u8]) -> i32
@@ -339,6 +370,16 @@ pub extern "C" fn roostcord_pieces_part_number(state: &[u8], out: &mut [u8]) -> 
         return refusal_word(Refusal::ListTooShort);
     }
     roostcord_part_number(arrived(state), out)
+}
+
+#[no_mangle]
+pub extern "C" fn roostcord_pieces_crc(state: &[u8]) -> i32
+    ensures { λ r. ⌜ r ≡ wordOf (asked (now (state .entry)) (crcNumber (arrivedIn (now (state .entry))))) ⌝ }
+{
+    if state.len() < STATE_SIZE {
+        return refusal_word(Refusal::ListTooShort);
+    }
+    roostcord_crc(arrived(state))
 }
 
 // A count as an answer.
