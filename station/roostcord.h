@@ -2,7 +2,8 @@
  *
  * Every call comes back with one number, whatever it is lent.
  *
- *   0 or more     It was done. The number counts what was written: bytes of a report or part number, numbers of a list, bytes taken.
+ *   0 or more     It was done. The number counts what was written: bytes of a report or part number, numbers of a list, bytes taken. Of
+ *                 the calls that write nothing it is the answer itself: whether a CRC fits, which read is sound.
  *   below 0       It was refused. Nothing was written: every lent buffer is as it was before the call.
  *
  * A refusal has a number, and some carry one or two values. Three macros take them out of the answer. For example, 16 bytes of an image
@@ -17,6 +18,7 @@
  * count of 0), a uint32_t or uint16_t pointer is aligned as its type asks, no two lent buffers of one call overlap, and nothing
  * else writes a lent buffer, or reads one that the call writes, while the call runs.
  *
+ * From 1.2.0 to 1.3.0: three calls and refusal 21 are new, all for the base CRC. All other calls answer as they did.
  * From 1.1.0 to 1.2.0: ROOSTCORD_STATE_SIZE is 557, where it was 512. A caller that was compiled against 512 gets refusal 4 from every
  * pieces call until it is compiled anew. Four calls and refusal 13 are new. All other calls answer as they did.
  */
@@ -29,9 +31,9 @@
 /*---- the version of this header ----*/
 
 #define ROOSTCORD_VERSION_MAJOR 1
-#define ROOSTCORD_VERSION_MINOR 2
+#define ROOSTCORD_VERSION_MINOR 3
 #define ROOSTCORD_VERSION_PATCH 0
-/* as one number, which grows with every version, and as text: "1.2.0" */
+/* as one number, which grows with every version, and as text: "1.3.0" */
 #define ROOSTCORD_VERSION (ROOSTCORD_VERSION_MAJOR * 65536 + ROOSTCORD_VERSION_MINOR * 256 + ROOSTCORD_VERSION_PATCH)
 #define ROOSTCORD_VERSION_STRING \
   ROOSTCORD_TEXT(ROOSTCORD_VERSION_MAJOR) "." ROOSTCORD_TEXT(ROOSTCORD_VERSION_MINOR) "." ROOSTCORD_TEXT(ROOSTCORD_VERSION_PATCH)
@@ -74,7 +76,8 @@ enum {
   ROOSTCORD_REPORT_CUT = 9,        /* fewer bytes than the report says it has, or fewer than two */
   ROOSTCORD_REPORT_VERSION = 10,   /* a report of another version than 1 */
   ROOSTCORD_REPORT_MALFORMED = 11, /* no report of version 1 */
-  ROOSTCORD_WRONG_DATE = 13        /* strict: a date byte is not two decimal digits, or the week is not 1 to 53 */
+  ROOSTCORD_WRONG_DATE = 13,       /* strict: a date byte is not two decimal digits, or the week is not 1 to 53 */
+  ROOSTCORD_NEITHER_SOUND = 21     /* of two reads neither is long enough and has a base CRC that fits */
 };
 
 /* The fields of refusal 3, in the order in which they are checked. */
@@ -98,6 +101,7 @@ enum {
   ROOSTCORD_IDENTITY_NEEDS = 236, /* bytes of an image, up to the last that is read; a shorter one is refused 1 */
   ROOSTCORD_TIMINGS_NEED = 94,
   ROOSTCORD_MANUFACTURING_NEEDS = 555,
+  ROOSTCORD_CRC_NEEDS = 512,
   ROOSTCORD_IDENTITY_COUNT = 18, /* numbers of a list */
   ROOSTCORD_TIMINGS_COUNT = 30,
   ROOSTCORD_CLOCKS_COUNT = 9,
@@ -262,6 +266,14 @@ enum {
 /* How a date is taken: as it is, or refused where it is none. */
 enum { ROOSTCORD_DATE_AS_IS = 0, ROOSTCORD_DATE_STRICT = 1 };
 
+/*---- the base CRC ----*/
+
+/* What roostcord_crc answers where it does not refuse. */
+enum { ROOSTCORD_CRC_WRONG = 0, ROOSTCORD_CRC_FITS = 1 };
+
+/* What roostcord_sound_read answers where it does not refuse. */
+enum { ROOSTCORD_FIRST_READ = 1, ROOSTCORD_SECOND_READ = 2 };
+
 /*---- the calls: what each does, what it answers, and when it refuses, in that order ----*/
 
 /* Tells the version of the library that is linked.
@@ -318,6 +330,18 @@ ROOSTCORD_MUST_USE int32_t roostcord_manufacturing(const uint8_t *image, size_t 
  * Refuses 4 where out_len is less than ROOSTCORD_PART_NUMBER_MAX, however few there are; 1 as roostcord_manufacturing does. */
 ROOSTCORD_MUST_USE int32_t roostcord_part_number(const uint8_t *image, size_t image_len, uint8_t *out, size_t out_len);
 
+/* Checks the base CRC of an image: the CRC of bytes 0 to 509 (polynomial 0x1021, start 0, high bit first) against the one that is stored
+ * at 510, low byte first. Where the image is fed in pieces, ask roostcord_pieces_crc: what is checked must be what was taken, not a copy
+ * that the reader holds.
+ * Answers ROOSTCORD_CRC_FITS or ROOSTCORD_CRC_WRONG.
+ * Refuses 1 where one of bytes 0 to 511 is missing, which is below ROOSTCORD_CRC_NEEDS bytes. */
+ROOSTCORD_MUST_USE int32_t roostcord_crc(const uint8_t *image, size_t image_len);
+
+/* Tells which of two reads of one module is sound: long enough, and with a base CRC that fits. The first, if both are.
+ * Answers ROOSTCORD_FIRST_READ or ROOSTCORD_SECOND_READ; bytes 0 to 511 of that read are its base block.
+ * Refuses 21 where neither is. */
+ROOSTCORD_MUST_USE int32_t roostcord_sound_read(const uint8_t *first, size_t first_len, const uint8_t *second, size_t second_len);
+
 /*---- an image that arrives in pieces ----
  *
  * The state is the first 557 bytes of `state`; the caller keeps it between calls and writes it by these calls alone. A piece goes with
@@ -350,6 +374,7 @@ ROOSTCORD_MUST_USE int32_t roostcord_pieces_clocks(const uint8_t *state, size_t 
 ROOSTCORD_MUST_USE int32_t roostcord_pieces_manufacturing(const uint8_t *state, size_t state_len, uint32_t strict, uint32_t *out,
                                                           size_t out_len);
 ROOSTCORD_MUST_USE int32_t roostcord_pieces_part_number(const uint8_t *state, size_t state_len, uint8_t *out, size_t out_len);
+ROOSTCORD_MUST_USE int32_t roostcord_pieces_crc(const uint8_t *state, size_t state_len);
 
 #ifdef __cplusplus
 }
