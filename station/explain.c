@@ -50,10 +50,18 @@ const char *explain_refusal(int32_t answer, int needs, char text[SENTENCE_MAX]) 
       plain = "Bytes 515 (year) and 516 (week) are no date: each must be two decimal digits, and the week 1 to 53. Read the module again; "
               "if they come the same, print no label. Without --strict-date they are told as they are.";
       break;
+    case ROOSTCORD_NEITHER_SOUND:
+      plain = "A sound read is whole, has 512 bytes or more, and its bytes 0 to 509 give the CRC that stands at 510 and 511; neither is. "
+              "Reseat the module, and read it twice again; if neither comes sound, do not certify it.";
+      break;
     default: break;
   }
   snprintf(text, SENTENCE_MAX, "%s", plain);
   return text;
+}
+
+const char *explain_wrong_crc(void) {
+  return "Bytes 0 to 509 do not give the CRC that stands at 510 and 511: bytes were lost, doubled or changed. " AGAIN;
 }
 
 /* Codes 3 and 6: two times, named by the sub. */

@@ -1,5 +1,5 @@
-/* explain.h: a sentence for each refusal and each finding, which says which bytes it is about and what to do. The sentences are ASCII
- * without quotes and backslashes, so they stand in JSON as they are. */
+/* explain.h: a sentence for each refusal, each finding and a wrong CRC, which says which bytes it is about and what to do. The sentences
+ * are ASCII without quotes and backslashes, so they stand in JSON as they are. */
 #ifndef EXPLAIN_H
 #define EXPLAIN_H
 
@@ -9,6 +9,9 @@ enum { SENTENCE_MAX = 400 };
 
 /* A decoder's refusal, or that of an image, a burst or a stored report. `needs` is what the decoder needs of an image. */
 const char *explain_refusal(int32_t answer, int needs, char text[SENTENCE_MAX]);
+
+/* A base CRC that does not fit. */
+const char *explain_wrong_crc(void);
 
 const char *explain_finding(const uint32_t finding[ROOSTCORD_FINDING_COUNT], char text[SENTENCE_MAX]);
 

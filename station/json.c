@@ -51,14 +51,21 @@ static void put_text(const char *key, const char *text) {
 
 static void put_flag(const char *key, bool flag) { printf(",\"%s\":%s", key, flag ? "true" : "false"); }
 
-/* What every object begins with. */
-static void begin(const struct subject *subject) {
-  printf("{\"%s\":", subject->kind);
-  if (!put_string(subject->name)) {
-    printf(",\"%s_hex\":\"", subject->kind);
-    for (const char *at = subject->name; *at != '\0'; at++) printf("%02x", (unsigned)(unsigned char)*at);
+/* The name of an image or report, as the first member of an object. */
+static void put_name(const char *kind, const char *name) {
+  printf("\"%s\":", kind);
+  if (!name) printf("null");
+  else if (!put_string(name)) {
+    printf(",\"%s_hex\":\"", kind);
+    for (const char *at = name; *at != '\0'; at++) printf("%02x", (unsigned)(unsigned char)*at);
     putchar('"');
   }
+}
+
+/* What every object begins with. */
+static void begin(const struct subject *subject) {
+  putchar('{');
+  put_name(subject->kind, subject->name);
   put_text("version", ROOSTCORD_VERSION_STRING);
   put_number("status", (unsigned long long)subject->status);
 }
@@ -134,6 +141,32 @@ static void put_cas(const struct records *r, const struct options *options) {
   putchar(']');
 }
 
+static void put_crc(int32_t answer, const struct options *options) {
+  if (put_if_refused("crc", answer, ROOSTCORD_CRC_NEEDS, options)) return;
+  bool fits = answer == ROOSTCORD_CRC_FITS;
+  printf(",\"crc\":{\"fits\":%s", fits ? "true" : "false");
+  if (!fits && options->explain) put_text("explanation", explain_wrong_crc());
+  putchar('}');
+}
+
+/* Of two reads: which is sound, and what became of each. */
+static void put_reads(const struct subject *subject, const struct options *options) {
+  if (!subject->reads) return;
+  if (ROOSTCORD_REFUSED(subject->sound)) printf(",\"sound_read\":null");
+  else put_number("sound_read", (unsigned long long)subject->sound);
+  printf(",\"reads\":[");
+  for (const struct read_outcome *read = subject->reads; read < subject->reads + READS; read++) {
+    fputs(read > subject->reads ? ",{" : "{", stdout);
+    put_name("image", read->name);
+    if (options->bursts) put_number("refused_bursts", read->refused_bursts);
+    if (read->outcome == CHECKED) put_crc(read->answer, options);
+    if (read->outcome == NOT_TAKEN) putchar(','), put_refusal("refused", read->answer, 0, options);
+    if (read->outcome == UNREAD) put_text("unread", read->why);
+    putchar('}');
+  }
+  putchar(']');
+}
+
 /* The part number: as text where all of it is printable, and always in hex. */
 static void put_part(const struct records *r) {
   char text[ROOSTCORD_PART_NUMBER_MAX + 1] = "";
@@ -185,12 +218,14 @@ static void put_findings(const struct findings *findings, const struct options *
 
 void json_image(const struct subject *subject, const struct records *r, const struct options *options) {
   begin(subject);
+  put_reads(subject, options);
   put_number("bytes", (unsigned long long)r->bytes);
   if (options->bursts) put_number("refused_bursts", subject->refused_bursts);
   put_identity(r, options);
   put_timings(r, options);
   put_clocks(r, options);
   put_cas(r, options);
+  if (!options->no_crc) put_crc(r->crc_answer, options);
   put_findings(&r->findings, options);
   if (options->label) put_label(r, options);
   printf("}\n");
@@ -198,6 +233,7 @@ void json_image(const struct subject *subject, const struct records *r, const st
 
 void json_refused(const struct subject *subject, int32_t answer, const struct options *options) {
   begin(subject);
+  put_reads(subject, options);
   putchar(',');
   put_refusal("refused", answer, 0, options);
   printf("}\n");

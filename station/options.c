@@ -12,6 +12,7 @@ enum { BURST = 16 }; /* where --burst is not given */
 static const char usage[] =
     "usage: station [OPTIONS] [--burst N] IMAGE...\n"
     "       station [OPTIONS] --bursts LOG...\n"
+    "       station [OPTIONS] --two-reads FIRST SECOND\n"
     "       station [OPTIONS] --read-report FILE\n"
     "\n"
     "Lints SPD images of DDR5 modules. IMAGE is a file (a Linux eeprom file will do), or - for standard input.\n"
@@ -23,6 +24,8 @@ static const char usage[] =
     "  -t, --timings           print the timings and the clock table as well\n"
     "  -m, --label             print the manufacturing block as well: makers, place, date, serial number and part number\n"
     "  -d, --strict-date       with --label: refuse a date that is not decimal digits, or whose week is not 1 to 53\n"
+    "  -n, --no-crc            leave the base CRC out, in the listing and for the status\n"
+    "  -2, --two-reads         read one module twice, and lint the first read whose base CRC fits; with --bursts both are logs\n"
     "  -e, --explain           say after each refusal and finding which bytes it is about, and what to do\n"
     "  -j, --json              print a JSON object on a line for each image, with identity and timings; the label only with --label\n"
     "  -o, --report FILE       write the report of the one image to FILE, in the library's form\n"
@@ -52,18 +55,22 @@ static const char forms[] =
     "Each burst is fed with its own offset. One that comes again is told on standard error as refused 5, and changes nothing; where\n"
     "bytes are missing, their offset is told there, and nothing is listed.\n"
     "\n"
-    "Status: 0 nothing of severity error (with --strict: no finding at all); 1 findings of that kind; 2 an image was refused, or a label\n"
-    "that was asked for, or something could not be read or written; 3 the words of the command line make no sense. With several images\n"
-    "the largest counts.\n";
+    "The base CRC is checked on the bytes that the library took, and told in a line: crc ok, crc wrong, or crc refused where the image has\n"
+    "fewer than 512 bytes. Of two reads the first line tells which is sound; where neither is, it is refused 21, and nothing is linted.\n"
+    "\n"
+    "Status: 0 nothing of severity error (with --strict: no finding at all); 1 findings of that kind, or a base CRC that is wrong; 2 an\n"
+    "image was refused, its base CRC or a label that was asked for, or something could not be read or written; 3 the words of the command\n"
+    "line make no sense. With several images the largest counts.\n";
 
 static const struct option longs[] = {
     {"burst", required_argument, NULL, 'b'}, {"bursts", no_argument, NULL, 'l'},       {"strict", no_argument, NULL, 's'},
     {"identity", no_argument, NULL, 'i'},    {"timings", no_argument, NULL, 't'},      {"explain", no_argument, NULL, 'e'},
     {"json", no_argument, NULL, 'j'},        {"report", required_argument, NULL, 'o'}, {"read-report", required_argument, NULL, 'R'},
     {"label", no_argument, NULL, 'm'},       {"strict-date", no_argument, NULL, 'd'},  {"version", no_argument, NULL, 'V'},
-    {"help", no_argument, NULL, 'h'},        {NULL, 0, NULL, 0}};
+    {"no-crc", no_argument, NULL, 'n'},      {"two-reads", no_argument, NULL, '2'},    {"help", no_argument, NULL, 'h'},
+    {NULL, 0, NULL, 0}};
 
-static const char shorts[] = ":b:lsitmdejo:R:Vh"; /* the colon in front: a missing value is told from an unknown option */
+static const char shorts[] = ":b:lsitmdn2ejo:R:Vh"; /* the colon in front: a missing value is told from an unknown option */
 
 static bool misused(const char *what, const char *word) {
   fprintf(stderr, "station: %s%s (station --help says how)\n", what, word);
@@ -104,6 +111,8 @@ static bool take_one(int letter, const char *word, struct options *options) {
     case 't': options->timings = true; return true;
     case 'm': options->label = true; return true;
     case 'd': options->strict_date = true; return true;
+    case 'n': options->no_crc = true; return true;
+    case '2': options->two_reads = true; return true;
     case 'e': options->explain = true; return true;
     case 'j': options->json = true; return true;
     case 'o': return take_name(&options->report, "--report");
@@ -113,16 +122,28 @@ static bool take_one(int letter, const char *word, struct options *options) {
   }
 }
 
+/* Whether what is said of two reads makes sense. */
+static bool two_agree(const struct options *o) {
+  if (o->no_crc) return misused("of two reads the base CRC says which is sound, so --no-crc does not go with --two-reads", "");
+  if (o->count != READS) return misused("--two-reads takes two names, the first read and the second", "");
+  if (strcmp(o->names[0], "-") == 0 && strcmp(o->names[1], "-") == 0)
+    return misused("--two-reads wants two reads, and standard input is but one: - goes once", "");
+  return true;
+}
+
 /* Whether the options go together. */
 static bool agree(const struct options *o) {
   if (o->bursts && o->burst) return misused("the bursts of a log have lengths of their own, so --burst does not go with --bursts", "");
-  if (o->read_report && (o->burst || o->bursts || o->identity || o->timings || o->label || o->strict_date || o->report))
-    return misused("a stored report has no bursts, identity, timings or label: only --strict, --explain and --json go with --read-report",
+  if (o->read_report &&
+      (o->burst || o->bursts || o->identity || o->timings || o->label || o->strict_date || o->report || o->no_crc || o->two_reads))
+    return misused("a stored report has no bursts, reads, identity, timings, CRC or label: only --strict, --explain and --json go with "
+                   "--read-report",
                    "");
   if (o->strict_date && !o->label) return misused("--strict-date is about the date of the label: give --label as well", "");
   if (o->read_report && o->count > 0) return misused("no image goes with --read-report, but there is ", o->names[0]);
   if (!o->read_report && o->count == 0) return misused("no image named", "");
-  if (o->report && o->count > 1) return misused("--report takes the report of one image, and several are named", "");
+  if (o->two_reads && !two_agree(o)) return false;
+  if (o->report && o->count > 1 && !o->two_reads) return misused("--report takes the report of one image, and several are named", "");
   if (o->report && strcmp(o->report, "-") == 0) return misused("--report wants the name of a file, not -", "");
   return true;
 }

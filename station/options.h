@@ -9,6 +9,8 @@ struct options {
   bool bursts;  /* the names are those of logs */
   bool strict, identity, timings, label, json, explain;
   bool strict_date; /* a date of the label that is none is refused */
+  bool no_crc;      /* the base CRC is neither told nor counted */
+  bool two_reads;   /* the two names are those of two reads of one module */
   const char *report;      /* the file that a report is written to, or NULL */
   const char *read_report; /* the stored report to list, or NULL */
   char **names;            /* of images, or of logs */

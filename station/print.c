@@ -27,6 +27,27 @@ static void print_decoder(const char *name, int32_t answer, int needs, const str
   else printf("ok\n");
 }
 
+/* The line of the base CRC: ok, wrong, or its refusal. */
+static void print_crc(int32_t answer, const struct options *options) {
+  bool wrong = !ROOSTCORD_REFUSED(answer) && answer != ROOSTCORD_CRC_FITS;
+  if (!wrong) print_decoder("crc", answer, ROOSTCORD_CRC_NEEDS, options);
+  else printf("crc wrong\n");
+  if (wrong && options->explain) printf("  %s\n", explain_wrong_crc());
+}
+
+void print_reads(const struct read_outcome reads[READS], int32_t sound, const struct options *options) {
+  if (ROOSTCORD_REFUSED(sound)) print_refusal(sound, 0, options);
+  else printf("sound read %d %s\n", (int)sound, reads[sound - ROOSTCORD_FIRST_READ].shown);
+  for (int k = 0; k < READS; k++) {
+    printf("read %d ", k + ROOSTCORD_FIRST_READ);
+    switch (reads[k].outcome) {
+      case CHECKED: print_crc(reads[k].answer, options); break;
+      case NOT_TAKEN: print_refusal(reads[k].answer, 0, options); break;
+      case UNREAD: printf("unread\n"); break;
+    }
+  }
+}
+
 static void print_findings(const struct findings *findings, const struct options *options) {
   char text[SENTENCE_MAX];
   for (const uint32_t *f = NULL; next_finding(findings, &f);) {
@@ -98,6 +119,7 @@ void print_image(const struct records *r, const struct options *options) {
   printf("bytes %ld\n", (long)r->bytes);
   print_decoder("identity", r->identity_answer, ROOSTCORD_IDENTITY_NEEDS, options);
   print_decoder("timings", r->timings_answer, ROOSTCORD_TIMINGS_NEED, options);
+  if (!options->no_crc) print_crc(r->crc_answer, options);
   print_findings(&r->findings, options);
   if (options->identity && !ROOSTCORD_REFUSED(r->identity_answer)) print_fields(identity_fields, ROOSTCORD_IDENTITY_COUNT, r->identity);
   if (options->timings && !ROOSTCORD_REFUSED(r->timings_answer)) print_timings(r, options);

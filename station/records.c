@@ -7,6 +7,7 @@ void ask_records(const uint8_t state[ROOSTCORD_STATE_SIZE], uint32_t date, struc
   r->timings_answer = roostcord_pieces_timings(state, ROOSTCORD_STATE_SIZE, r->timings, ROOSTCORD_TIMINGS_COUNT);
   r->clocks_answer = roostcord_pieces_clocks(state, ROOSTCORD_STATE_SIZE, r->clocks, ROOSTCORD_CLOCKS_COUNT);
   r->cas_answer = roostcord_pieces_cas_latencies(state, ROOSTCORD_STATE_SIZE, r->cas, ROOSTCORD_CAS_LATENCIES_MAX);
+  r->crc_answer = roostcord_pieces_crc(state, ROOSTCORD_STATE_SIZE);
   r->manufacturing_answer =
       roostcord_pieces_manufacturing(state, ROOSTCORD_STATE_SIZE, date, r->manufacturing, ROOSTCORD_MANUFACTURING_COUNT);
   r->part_answer = roostcord_pieces_part_number(state, ROOSTCORD_STATE_SIZE, r->part, ROOSTCORD_PART_NUMBER_MAX);
@@ -28,6 +29,19 @@ bool next_finding(const struct findings *findings, const uint32_t **finding) {
 
 bool decoded(const struct findings *findings, uint32_t flag) {
   return !ROOSTCORD_REFUSED(findings->answer) && (findings->numbers[ROOSTCORD_REPORT_FLAGS] & flag) != 0;
+}
+
+/* A read that was not taken whole is none of a module, whatever its first bytes are. */
+static bool is_sound(const struct read_outcome *read) { return read->outcome == CHECKED && read->answer == ROOSTCORD_CRC_FITS; }
+
+int32_t sound_read(const struct read_outcome reads[READS]) {
+  if (is_sound(&reads[0])) return ROOSTCORD_FIRST_READ;
+  return is_sound(&reads[1]) ? ROOSTCORD_SECOND_READ : -ROOSTCORD_NEITHER_SOUND;
+}
+
+enum status status_of_crc(int32_t answer) {
+  if (ROOSTCORD_REFUSED(answer)) return UNREADABLE;
+  return answer == ROOSTCORD_CRC_FITS ? CLEAN : FOUND;
 }
 
 enum status status_of(const struct findings *findings, bool strict) {

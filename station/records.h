@@ -9,7 +9,7 @@
 /* How the program ends. */
 enum status {
   CLEAN = 0,      /* nothing that counts was found */
-  FOUND = 1,      /* a finding of severity error, or any with --strict */
+  FOUND = 1,      /* a finding of severity error, or any with --strict; or a base CRC that is wrong */
   UNREADABLE = 2, /* something was refused, or could not be read or written */
   MISUSED = 3     /* the words of the command line do not make sense */
 };
@@ -23,7 +23,7 @@ struct findings {
 /* Each record with the library's answer: a list is there where its answer is no refusal. */
 struct records {
   int32_t bytes;
-  int32_t identity_answer, timings_answer, clocks_answer, cas_answer, manufacturing_answer, part_answer, report_answer;
+  int32_t identity_answer, timings_answer, clocks_answer, cas_answer, crc_answer, manufacturing_answer, part_answer, report_answer;
   uint32_t identity[ROOSTCORD_IDENTITY_COUNT];
   uint32_t timings[ROOSTCORD_TIMINGS_COUNT];
   uint32_t clocks[ROOSTCORD_CLOCKS_COUNT];
@@ -43,6 +43,30 @@ bool next_finding(const struct findings *findings, const uint32_t **finding);
 size_t count_findings(const struct findings *findings);
 
 bool decoded(const struct findings *findings, uint32_t flag);
+
+/* What became of one of two reads. */
+enum outcome {
+  CHECKED,   /* the state took all of it, and was asked for its base CRC */
+  NOT_TAKEN, /* the library refused some of it: 6 */
+  UNREAD     /* it could not be read whole */
+};
+
+struct read_outcome {
+  const char *name, *shown; /* as it was given, and as it is shown */
+  enum outcome outcome;
+  int32_t answer;               /* CHECKED: of the state, to the question for its CRC; NOT_TAKEN: the refusal */
+  const char *why;              /* NOT_TAKEN, UNREAD: as on standard error */
+  unsigned long refused_bursts; /* bursts of a log that were refused for their offset */
+};
+
+enum { READS = 2 };
+
+/* Which of two reads is sound, the first if both are. Answers as roostcord_sound_read does, but by what the states said of what they took:
+ * here are no bytes. */
+int32_t sound_read(const struct read_outcome reads[READS]);
+
+/* What a base CRC comes to. */
+enum status status_of_crc(int32_t answer);
 
 /* What a report comes to. A record that was not decoded counts like a refusal. */
 enum status status_of(const struct findings *findings, bool strict);

@@ -1,5 +1,6 @@
 /* The station's host program: reads SPD images, or logs of the bursts of an image, feeds each burst with the offset at which it was read
- * to the proved library, and prints what the library says. All that is judged is judged in libroostcord.a.
+ * to the proved library, and prints what the library says. All that is judged is judged in libroostcord.a, on the bytes that its states
+ * took: the base CRC too, since one that was checked on a reader's own copy let forty false certificates pass.
  *
  *   options.c  the words of the command line        feed.c, readers.c, log.c  where the bytes come from
  *   records.c  the questions to the library         print.c, json.c           how the answers are printed
@@ -94,14 +95,16 @@ static enum status store(const struct records *records, const struct options *op
   return UNREADABLE;
 }
 
-/* What the library says of a whole image. */
+static enum status worse(enum status one, enum status other) { return one > other ? one : other; }
+
+/* What the library says of a whole image. The subject's status is what counts before it is asked. */
 static enum status show_image(struct subject *subject, const uint8_t *state, const struct options *options) {
   struct records records;
   ask_records(state, options->strict_date ? ROOSTCORD_DATE_STRICT : ROOSTCORD_DATE_AS_IS, &records);
-  enum status stored = store(&records, options);
-  subject->status = status_of(&records.findings, options->strict);
-  if (stored > subject->status) subject->status = stored;
-  if (options->label && ROOSTCORD_REFUSED(records.manufacturing_answer)) subject->status = UNREADABLE;
+  subject->status = worse(subject->status, store(&records, options));
+  subject->status = worse(subject->status, status_of(&records.findings, options->strict));
+  if (!options->no_crc) subject->status = worse(subject->status, status_of_crc(records.crc_answer));
+  if (options->label && ROOSTCORD_REFUSED(records.manufacturing_answer)) subject->status = worse(subject->status, UNREADABLE);
   if (options->json) json_image(subject, &records, options);
   else print_image(&records, options);
   return subject->status;
@@ -118,26 +121,75 @@ static enum status show_fault(const struct subject *subject, const struct input 
   return subject->status;
 }
 
+/* Whether the report would be written over what is read; that is told. */
+static bool overwrites(const struct input *input, const struct options *options) {
+  if (!options->report || !same_file(options->report, input->path)) return false;
+  fprintf(stderr, "station: %s: --report would write over the image itself\n", input->shown);
+  return true;
+}
+
+/* Feeds what a name stands for to a fresh state. */
+static struct feed_result feed_input(struct input *input, const struct options *options, uint8_t state[ROOSTCORD_STATE_SIZE]) {
+  if (ROOSTCORD_REFUSED(roostcord_pieces_fresh(state, ROOSTCORD_STATE_SIZE))) return (struct feed_result){.end = FEED_FAILED}; /* never */
+  return options->bursts ? feed_log(input, options, state) : feed_file(input, options, state);
+}
+
 static enum status lint_named(const char *name, const struct options *options) {
   struct input input = input_named(name);
-  if (options->report && same_file(options->report, input.path)) {
-    fprintf(stderr, "station: %s: --report would write over the image itself\n", input.shown);
-    return MISUSED;
-  }
   uint8_t state[ROOSTCORD_STATE_SIZE];
-  if (ROOSTCORD_REFUSED(roostcord_pieces_fresh(state, sizeof state))) return UNREADABLE; /* it is long enough */
-  struct feed_result fed = options->bursts ? feed_log(&input, options, state) : feed_file(&input, options, state);
-  struct subject subject = {"image", name, UNREADABLE, input.refused_bursts};
+  if (overwrites(&input, options)) return MISUSED;
+  struct feed_result fed = feed_input(&input, options, state);
+  struct subject subject = {.kind = "image", .name = name, .refused_bursts = input.refused_bursts};
+  subject.status = fed.end == FEED_WHOLE ? CLEAN : UNREADABLE;
   bool listed = fed.end == FEED_WHOLE || fed.end == FEED_REFUSED;
   if (options->count > 1 && listed && !options->json) printf("%s:\n", input.shown);
   return fed.end == FEED_WHOLE ? show_image(&subject, state, options) : show_fault(&subject, &input, &fed, options);
+}
+
+/* What became of a read, by what its state answers; what is not whole is told. */
+static struct read_outcome outcome_of(const struct input *input, const struct feed_result *fed, const uint8_t *state) {
+  struct read_outcome read = {.name = input->name, .shown = input->shown, .why = input->why, .refused_bursts = input->refused_bursts};
+  read.outcome = fed->end == FEED_WHOLE ? CHECKED : fed->end == FEED_REFUSED ? NOT_TAKEN : UNREAD;
+  read.answer = read.outcome == CHECKED ? roostcord_pieces_crc(state, ROOSTCORD_STATE_SIZE) : fed->refusal;
+  if (read.outcome != CHECKED) tell(input);
+  return read;
+}
+
+/* Two reads of which neither is sound: nothing is linted. */
+static enum status show_neither(struct subject *subject, const struct options *options) {
+  subject->status = UNREADABLE;
+  fprintf(stderr, "station: neither read is sound, so nothing was linted: %s, %s\n", subject->reads[0].shown, subject->reads[1].shown);
+  if (options->report) fprintf(stderr, "station: %s: no report was written\n", options->report);
+  if (options->json) json_refused(subject, subject->sound, options);
+  return subject->status;
+}
+
+/* Feeds two reads of one module, each to a state of its own, and lints the one whose state says that it is sound. */
+static enum status lint_two(const struct options *options) {
+  struct input inputs[READS] = {input_named(options->names[0]), input_named(options->names[1])};
+  uint8_t states[READS][ROOSTCORD_STATE_SIZE];
+  struct read_outcome reads[READS];
+  struct subject subject = {.kind = "image", .reads = reads, .status = CLEAN};
+  if (overwrites(&inputs[0], options) || overwrites(&inputs[1], options)) return MISUSED;
+  for (int k = 0; k < READS; k++) {
+    struct feed_result fed = feed_input(&inputs[k], options, states[k]);
+    reads[k] = outcome_of(&inputs[k], &fed, states[k]);
+    if (reads[k].outcome != CHECKED) subject.status = UNREADABLE; /* something could not be read, even if the other one is sound */
+  }
+  subject.sound = sound_read(reads);
+  if (!options->json) print_reads(reads, subject.sound, options);
+  if (ROOSTCORD_REFUSED(subject.sound)) return show_neither(&subject, options);
+  int chosen = (int)subject.sound - ROOSTCORD_FIRST_READ;
+  subject.name = reads[chosen].name;
+  subject.refused_bursts = reads[chosen].refused_bursts;
+  return show_image(&subject, states[chosen], options);
 }
 
 /* Lists a stored report. */
 static enum status list_stored(const struct options *options) {
   static uint8_t bytes[STORED_MAX];
   struct input input = input_named(options->read_report);
-  struct subject subject = {"report", input.name, UNREADABLE, 0};
+  struct subject subject = {.kind = "report", .name = input.name, .status = UNREADABLE};
   struct findings findings;
   size_t len = 0;
   int error = load_report(input.path, bytes, &len);
@@ -154,16 +206,18 @@ static enum status list_stored(const struct options *options) {
   return subject.status;
 }
 
+/* Lints each image that is named. */
+static enum status lint_all(const struct options *options) {
+  enum status worst = CLEAN;
+  for (int i = 0; i < options->count; i++) worst = worse(worst, lint_named(options->names[i], options));
+  return worst;
+}
+
 int main(int argc, char **argv) {
   struct options options;
   enum status worst;
-  if (take_options(argc, argv, &options, &worst)) {
-    worst = options.read_report ? list_stored(&options) : CLEAN;
-    for (int i = 0; i < options.count; i++) {
-      enum status status = lint_named(options.names[i], &options);
-      if (status > worst) worst = status;
-    }
-  }
+  if (take_options(argc, argv, &options, &worst))
+    worst = options.read_report ? list_stored(&options) : options.two_reads ? lint_two(&options) : lint_all(&options);
   if (fflush(stdout) != 0 || ferror(stdout)) {
     fprintf(stderr, "station: standard output: %s\n", strerror(errno));
     if (worst < UNREADABLE) worst = UNREADABLE;
