@@ -268,7 +268,7 @@ enum { ROOSTCORD_DATE_AS_IS = 0, ROOSTCORD_DATE_STRICT = 1 };
 
 /*---- the base CRC ----*/
 
-/* What roostcord_crc answers where it does not refuse. */
+/* What roostcord_crc and roostcord_pieces_crc answer where they do not refuse. */
 enum { ROOSTCORD_CRC_WRONG = 0, ROOSTCORD_CRC_FITS = 1 };
 
 /* What roostcord_sound_read answers where it does not refuse. */
@@ -337,7 +337,8 @@ ROOSTCORD_MUST_USE int32_t roostcord_part_number(const uint8_t *image, size_t im
  * Refuses 1 where one of bytes 0 to 511 is missing, which is below ROOSTCORD_CRC_NEEDS bytes. */
 ROOSTCORD_MUST_USE int32_t roostcord_crc(const uint8_t *image, size_t image_len);
 
-/* Tells which of two reads of one module is sound: long enough, and with a base CRC that fits. The first, if both are.
+/* Tells which of two reads of one module is sound: long enough, and with a base CRC that fits. The first, if both are. For reads that are
+ * fed in pieces ask each state by roostcord_pieces_crc, and take the first that answers ROOSTCORD_CRC_FITS.
  * Answers ROOSTCORD_FIRST_READ or ROOSTCORD_SECOND_READ; bytes 0 to 511 of that read are its base block.
  * Refuses 21 where neither is. */
 ROOSTCORD_MUST_USE int32_t roostcord_sound_read(const uint8_t *first, size_t first_len, const uint8_t *second, size_t second_len);
