@@ -1,11 +1,12 @@
 //! One image, asked of both sides: every number of both records, the refusals with what they carry, the offset that is missing among
 //! it, the CAS list, and every finding in order. Our answers come from the C library; the Rust's are put into document 01's numbers here.
-//! The manufacturing block is compared in manufacturing.rs.
+//! The manufacturing block is compared in manufacturing.rs, and the base CRC in crc.rs.
 //!
 //! The report form has no severity, so the Rust's severity of each finding is held against document 01's for its code; and so is
 //! the severity that the library answers when it reads the report back, with all else that the report says. The clock table,
 //! which the Rust does not have, is held against document 01's definition of it over the Rust's times.
 
+use crate::crc;
 use crate::images::Rng;
 use crate::manufacturing;
 use crate::numbers::{DEVICE_TYPE, Row, field_number, identity_lacks, identity_numbers, row};
@@ -34,6 +35,7 @@ pub struct Answers {
     clocks: [u32; 9],
     strict: u32,
     pub block: manufacturing::Answers,
+    pub crc: i32,
 }
 
 pub type Question<T> = fn(&[u8], &mut [T]) -> i32;
@@ -46,6 +48,7 @@ struct Questions {
     cas: Question<u16>,
     clocks: Question<u32>,
     block: manufacturing::Questions,
+    crc: fn(&[u8]) -> i32,
 }
 
 const OF_IMAGE: Questions = Questions {
@@ -55,6 +58,7 @@ const OF_IMAGE: Questions = Questions {
     cas: ours::cas_latencies,
     clocks: ours::clocks,
     block: manufacturing::OF_IMAGE,
+    crc: ours::crc,
 };
 
 const OF_STATE: Questions = Questions {
@@ -64,6 +68,7 @@ const OF_STATE: Questions = Questions {
     cas: ours::pieces_cas_latencies,
     clocks: ours::pieces_clocks,
     block: manufacturing::OF_STATE,
+    crc: ours::pieces_crc,
 };
 
 impl Answers {
@@ -87,6 +92,7 @@ impl Answers {
             clocks: [STAY.into(); 9],
             strict,
             block: manufacturing::Answers::of(from, &ask.block, strict),
+            crc: (ask.crc)(from),
         };
         a.words = [
             (ask.lint)(from, &mut a.report),
@@ -332,6 +338,7 @@ pub fn feed(image: &[u8], cut: Cut, rng: &mut Rng, whole: &Answers) -> Result<()
     full(&mut state, at)?;
     expect("the count taken", at, ours::pieces_taken(&state), at as i32)?;
     manufacturing::too_short(image, &state, whole.strict, rng)?;
+    crc::too_short(&state, rng)?;
     let answers = Answers::of(&state, &OF_STATE, whole.strict);
     if answers == *whole { Ok(()) } else { Err("pieces: an answer is not that for the whole image".into()) }
 }

@@ -17,6 +17,9 @@ pub const BLOCK: Range<usize> = 512..555;
 pub const DATE: Range<usize> = 515..517;
 pub const PART: Range<usize> = 521..551;
 
+/// Where the base CRC is stored, low byte first. It covers all bytes before.
+pub const STORED_CRC: usize = 510;
+
 /// splitmix64. One generator for each image, made of the seed and the image's number, so that an image can be made again alone.
 pub struct Rng(u64);
 
@@ -85,7 +88,15 @@ pub fn put_cas(image: &mut [u8], mask: u64) {
     }
 }
 
-/// An image that decodes and has no finding.
+/// Gives an image the base CRC that the Rust reckons, if it is long enough to hold it.
+pub fn seal(image: &mut [u8]) {
+    if let Some(covered) = image.get(..STORED_CRC) {
+        let crc = spdr::crc16(covered);
+        put16(image, STORED_CRC, crc);
+    }
+}
+
+/// An image that decodes and has no finding, and a base CRC that fits.
 pub fn sound(m: &Module) -> [u8; PROFILES] {
     let mut image = [0; PROFILES];
     for (i, byte) in image.iter_mut().enumerate() {
@@ -105,6 +116,7 @@ pub fn sound(m: &Module) -> [u8; PROFILES] {
     }
     put16(&mut image, 36, 32_000);
     put16(&mut image, 38, 32_000 + time);
+    seal(&mut image);
     image
 }
 

@@ -3,20 +3,24 @@
 //! Progress and differences go to stderr, one line of figures to stdout; exit status 1 on a difference, 2 if too little was tried.
 
 mod compare;
+mod crc;
 mod images;
 mod manufacturing;
 mod numbers;
 mod ours;
 
 use compare::{Answers, Cut, Verdict};
+use crc::Sound;
 use images::{
-    BLOCK, CYCLE_TIMES, DATE, MODULES, PART, PROFILES, RESERVED, Rng, TIME_OFFSETS, put_block, put_cas, put16, sound_images,
+    BLOCK, CYCLE_TIMES, DATE, MODULES, PART, PROFILES, RESERVED, Rng, TIME_OFFSETS, put_block, put_cas, put16, seal, sound_images,
 };
 use std::io::IsTerminal;
 use std::process::ExitCode;
 use std::time::{Duration, Instant};
 
+/// So many differences are printed, and after so many nothing more is judged.
 const PRINTED: u64 = 20;
+const ENOUGH: u64 = 1000;
 
 /// The run: what was seen, and where it stands.
 struct Judge {
@@ -29,6 +33,7 @@ struct Judge {
     part_cut: u64,
     not_ascii: u64,
     zero_padded: u64,
+    covered_cut: u64,
     differences: u64,
     /// How many images decode, and how many findings of each code they have: that not all images end at the first check.
     identities: u64,
@@ -37,8 +42,18 @@ struct Judge {
     /// How many manufacturing blocks decode, by the length of their part number; how many of them the strict mode takes.
     parts: [u64; 31],
     strict: u64,
-    /// The image at hand, with its block.
+    /// How many base CRCs do not fit, and how many do; of the images in pieces; and which families have none that does.
+    crcs: [u64; 2],
+    crcs_fed: [u64; 2],
+    unfit: Vec<&'static str>,
+    /// How many bursts that came twice changed a sound block, and how many of these the CRC sees.
+    bent: u64,
+    bent_seen: u64,
+    /// Of two reads: how often both were sound, the first alone, the second alone, neither.
+    reads: [u64; 4],
+    /// The image at hand, with its block, and copies of it.
     image: Vec<u8>,
+    copies: crc::Copies,
     family: &'static str,
     family_start: u64,
     started: Instant,
@@ -58,13 +73,21 @@ impl Judge {
             part_cut: 0,
             not_ascii: 0,
             zero_padded: 0,
+            covered_cut: 0,
             differences: 0,
             identities: 0,
             timings: 0,
             findings: [0; 10],
             parts: [0; 31],
             strict: 0,
+            crcs: [0; 2],
+            crcs_fed: [0; 2],
+            unfit: Vec::new(),
+            bent: 0,
+            bent_seen: 0,
+            reads: [0; 4],
             image: Vec::new(),
+            copies: crc::Copies::default(),
             family: "",
             family_start: 0,
             started: now,
@@ -72,13 +95,18 @@ impl Judge {
         }
     }
 
-    /// Runs one family and prints its count.
+    /// Runs one family and prints its count. One of some size must have a base CRC that fits.
     fn family(&mut self, name: &'static str, run: fn(&mut Judge)) {
         self.family = name;
         self.family_start = self.images;
+        let fitted = self.crcs[1];
         run(self);
         self.clear();
-        eprintln!("judge: {name}: {} images", self.images - self.family_start);
+        let count = self.images - self.family_start;
+        if count >= 1000 && self.crcs[1] == fitted {
+            self.unfit.push(name);
+        }
+        eprintln!("judge: {name}: {count} images");
     }
 
     /// Judges one image, one in eight of them in random pieces as well.
@@ -90,18 +118,22 @@ impl Judge {
         if self.images.is_multiple_of(8) { Some(Cut::Random) } else { None }
     }
 
-    /// The image gets a manufacturing block of its own first, as far as it reaches: one with an ASCII part number.
+    /// The image gets a manufacturing block of its own first, as far as it reaches: one with an ASCII part number. One in eight gets a base CRC
+    /// that fits.
     fn see_cut(&mut self, image: &[u8], cut: Option<Cut>) {
         let mut copy = std::mem::take(&mut self.image);
         copy.clear();
         copy.extend_from_slice(image);
         let mut rng = self.rng();
         put_block(&mut copy, &mut rng);
+        if rng.below(8) == 0 {
+            seal(&mut copy);
+        }
         self.judge(&copy, cut, &mut rng);
         self.image = copy;
     }
 
-    /// An image that has its block.
+    /// An image that has its block, and its base CRC.
     fn see_block(&mut self, image: &[u8]) {
         self.judge(image, self.some_cut(), &mut self.rng());
     }
@@ -127,10 +159,22 @@ impl Judge {
             Ok(manufacturing::Verdict::ZeroPadded) => self.zero_padded += 1,
             Err(item) => self.difference(image, &item),
         }
+        match crc::compare(image, ours.crc, &mut self.copies, rng) {
+            Ok((verdict, reads)) => {
+                self.covered_cut += u64::from(verdict == crc::Verdict::CoveredCut);
+                if let Some(sound) = reads {
+                    self.reads[sound as usize] += 1;
+                }
+            }
+            Err(item) => self.difference(image, &item),
+        }
         if let Some(cut) = cut
             && image.len() <= ours::IMAGE_MAX
         {
             self.fed += 1;
+            if let Some(n) = self.crcs_fed.get_mut(ours.crc as usize) {
+                *n += 1;
+            }
             if let Err(item) = compare::feed(image, cut, rng, &ours) {
                 self.difference(image, &item);
             }
@@ -153,6 +197,9 @@ impl Judge {
             self.parts[len.min(30)] += 1;
             self.strict += u64::from(strict);
         }
+        if let Some(n) = self.crcs.get_mut(ours.crc as usize) {
+            *n += 1;
+        }
     }
 
     /// How many manufacturing blocks decoded.
@@ -166,6 +213,10 @@ impl Judge {
             self.clear();
             let index = self.images - self.family_start;
             eprintln!("judge: DIFFERENCE: {} {index}, seed {}, {} bytes: {item}", self.family, self.seed, image.len());
+        }
+        if self.differences == ENOUGH {
+            eprintln!("judge: {ENOUGH} differences in {} images, and the rest was not judged", self.images + 1);
+            std::process::exit(1);
         }
     }
 
@@ -339,6 +390,38 @@ fn bursts(judge: &mut Judge) {
     }
 }
 
+/// Every single bit of a sound block changed, the two bytes of its CRC among them: each must be seen.
+fn single_bits(judge: &mut Judge) {
+    for base in bases() {
+        let mut image = base;
+        let block = &mut image[..crc::NEEDS];
+        judge.see_block(block);
+        for bit in 0..8 * crc::NEEDS {
+            block[bit / 8] ^= 1 << (bit % 8);
+            if ours::crc(block) != 0 {
+                judge.difference(block, "CRC: one changed bit is not seen");
+            }
+            judge.see_block(block);
+            block[bit / 8] ^= 1 << (bit % 8);
+        }
+    }
+}
+
+/// A burst of a sound block comes twice, at every byte offset. What the CRC sees is held to the Rust's verdict and counted.
+fn sound_bursts(judge: &mut Judge) {
+    for base in bases() {
+        let block = &base[..crc::NEEDS];
+        for at in 0..=crc::NEEDS - 16 {
+            let image = burst(block, at, 0);
+            if image[..crc::NEEDS] != *block {
+                judge.bent += 1;
+                judge.bent_seen += u64::from(ours::crc(&image) == 0);
+            }
+            judge.judge(&image, Some(Cut::Bursts(at % 16)), &mut judge.rng());
+        }
+    }
+}
+
 /// All pairs of the two date bytes, on images that just hold their block.
 fn dates(judge: &mut Judge) {
     let mut image = bases()[0];
@@ -453,12 +536,23 @@ fn untried(judge: &Judge) -> Vec<String> {
         ("row 6 of docs/DIFFERENCES.md", judge.part_cut),
         ("row 7 of docs/DIFFERENCES.md", judge.not_ascii),
         ("row 8 of docs/DIFFERENCES.md", judge.zero_padded),
+        ("row 9 of docs/DIFFERENCES.md", judge.covered_cut),
         ("a date that the strict mode takes", judge.strict),
         ("a date that it refuses", judge.blocks() - judge.strict),
+        ("a CRC that fits", judge.crcs[1]),
+        ("a CRC that does not", judge.crcs[0]),
+        ("a CRC that fits, in pieces", judge.crcs_fed[1]),
+        ("a CRC that does not, in pieces", judge.crcs_fed[0]),
+        ("a burst twice that the CRC sees", judge.bent_seen),
+        ("two reads that are sound", judge.reads[Sound::Both as usize]),
+        ("a first read that is sound", judge.reads[Sound::First as usize]),
+        ("a second read that is sound", judge.reads[Sound::Second as usize]),
+        ("two reads of which neither is", judge.reads[Sound::Neither as usize]),
     ];
     let codes = (1..9).map(|code| (format!("code {code}"), judge.findings[code]));
     let parts = judge.parts.into_iter().enumerate().map(|(len, n)| (format!("a part number of {len} characters"), n));
-    let all = seen.into_iter().map(|(what, n)| (what.to_string(), n)).chain(codes).chain(parts);
+    let unfit = judge.unfit.iter().map(|family| (format!("a CRC that fits among the {family}"), 0));
+    let all = seen.into_iter().map(|(what, n)| (what.to_string(), n)).chain(codes).chain(parts).chain(unfit);
     all.filter(|(_, n)| *n == 0).map(|(what, _)| what).collect()
 }
 
@@ -484,16 +578,24 @@ fn main() -> ExitCode {
     judge.family("every time", every_time);
     judge.family("CAS bits", cas_bits);
     judge.family("bursts", bursts);
+    judge.family("single bits", single_bits);
+    judge.family("bursts twice in a sound block", sound_bursts);
     judge.family("dates", dates);
     judge.family("part numbers", part_numbers);
     judge.family("random", random);
     let codes: Vec<String> = (1..10).map(|code| format!("{} of code {code}", judge.findings[code])).collect();
     eprintln!("judge: {} identities and {} timings decoded; findings: {}", judge.identities, judge.timings, codes.join(", "));
     eprintln!("judge: {} manufacturing blocks decoded, {} of them in the strict mode too", judge.blocks(), judge.strict);
+    let [both, first, second, neither] = judge.reads;
+    eprintln!(
+        "judge: {} base CRCs fit and {} do not; of two reads both were sound {both} times, the first {first}, the second {second}, \
+         neither {neither}; of {} bursts that changed a sound block by coming twice the CRC sees {}",
+        judge.crcs[1], judge.crcs[0], judge.bent, judge.bent_seen
+    );
     println!(
         "judge: {} images, {} of them in pieces too, {} listed (row 1, short images), {} listed (row 2, other device types), \
          {} listed (row 6, cut part numbers), {} listed (row 7, part numbers not ASCII), {} listed (row 8, zero bytes behind them), \
-         {} differences, seed {}, {} s",
+         {} listed (row 9, CRCs of short images), {} differences, seed {}, {} s",
         judge.images,
         judge.fed,
         judge.short,
@@ -501,6 +603,7 @@ fn main() -> ExitCode {
         judge.part_cut,
         judge.not_ascii,
         judge.zero_padded,
+        judge.covered_cut,
         judge.differences,
         judge.seed,
         judge.started.elapsed().as_secs()

@@ -23,6 +23,8 @@ mod c {
         pub fn roostcord_clocks(image: *const u8, n: usize, out: *mut u32, room: usize) -> i32;
         pub fn roostcord_manufacturing(image: *const u8, n: usize, strict: u32, out: *mut u32, room: usize) -> i32;
         pub fn roostcord_part_number(image: *const u8, n: usize, out: *mut u8, room: usize) -> i32;
+        pub fn roostcord_crc(image: *const u8, n: usize) -> i32;
+        pub fn roostcord_sound_read(first: *const u8, n: usize, second: *const u8, second_len: usize) -> i32;
         pub fn roostcord_pieces_fresh(state: *mut u8, n: usize) -> i32;
         pub fn roostcord_pieces_feed(state: *mut u8, n: usize, offset: usize, piece: *const u8, piece_len: usize) -> i32;
         pub fn roostcord_pieces_taken(state: *const u8, n: usize) -> i32;
@@ -33,6 +35,7 @@ mod c {
         pub fn roostcord_pieces_clocks(state: *const u8, n: usize, out: *mut u32, room: usize) -> i32;
         pub fn roostcord_pieces_manufacturing(state: *const u8, n: usize, strict: u32, out: *mut u32, room: usize) -> i32;
         pub fn roostcord_pieces_part_number(state: *const u8, n: usize, out: *mut u8, room: usize) -> i32;
+        pub fn roostcord_pieces_crc(state: *const u8, n: usize) -> i32;
     }
 }
 
@@ -76,6 +79,26 @@ pub fn pieces_manufacturing(state: &[u8], strict: u32, out: &mut [u32]) -> i32 {
     unsafe { c::roostcord_pieces_manufacturing(state.as_ptr(), state.len(), strict, out.as_mut_ptr(), out.len()) }
 }
 
+/// The three questions whose answer is the number itself.
+#[inline(always)]
+pub fn crc(image: &[u8]) -> i32 {
+    // SAFETY: the slice is valid for its length.
+    unsafe { c::roostcord_crc(image.as_ptr(), image.len()) }
+}
+
+#[inline(always)]
+pub fn pieces_crc(state: &[u8]) -> i32 {
+    // SAFETY: as above.
+    unsafe { c::roostcord_pieces_crc(state.as_ptr(), state.len()) }
+}
+
+/// The two must not overlap, which nothing here sees.
+#[inline(always)]
+pub fn sound_read(first: &[u8], second: &[u8]) -> i32 {
+    // SAFETY: both slices are valid for their lengths, and neither is written.
+    unsafe { c::roostcord_sound_read(first.as_ptr(), first.len(), second.as_ptr(), second.len()) }
+}
+
 #[inline(always)]
 pub fn pieces_fresh(state: &mut [u8]) -> i32 {
     // SAFETY: the slice is valid for its length and borrowed alone.
@@ -94,7 +117,7 @@ pub fn pieces_taken(state: &[u8]) -> i32 {
     unsafe { c::roostcord_pieces_taken(state.as_ptr(), state.len()) }
 }
 
-pub const SYMBOLS: usize = 18;
+pub const SYMBOLS: usize = 21;
 
 /// Every call by its name, for measuring its stack.
 pub fn symbols() -> [(&'static str, *const c_void); SYMBOLS] {
@@ -110,6 +133,8 @@ pub fn symbols() -> [(&'static str, *const c_void); SYMBOLS] {
         roostcord_clocks,
         roostcord_manufacturing,
         roostcord_part_number,
+        roostcord_crc,
+        roostcord_sound_read,
         roostcord_pieces_fresh,
         roostcord_pieces_feed,
         roostcord_pieces_taken,
@@ -119,6 +144,7 @@ pub fn symbols() -> [(&'static str, *const c_void); SYMBOLS] {
         roostcord_pieces_cas_latencies,
         roostcord_pieces_clocks,
         roostcord_pieces_manufacturing,
-        roostcord_pieces_part_number
+        roostcord_pieces_part_number,
+        roostcord_pieces_crc
     ]
 }
