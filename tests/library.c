@@ -22,6 +22,8 @@ SURELY(timings_places, ROOSTCORD_TIMINGS_DATA_RATE + 1 == ROOSTCORD_TIMINGS_COUN
 SURELY(clocks_places, ROOSTCORD_CLOCKS_TRFCSB + 1 == ROOSTCORD_CLOCKS_COUNT);
 SURELY(manufacturing_places, ROOSTCORD_MANUFACTURING_PART_LENGTH + 1 == ROOSTCORD_MANUFACTURING_COUNT);
 SURELY(state_keeps_the_block, 2 + ROOSTCORD_MANUFACTURING_NEEDS == ROOSTCORD_STATE_SIZE);
+SURELY(state_keeps_the_crc, 2 + ROOSTCORD_CRC_NEEDS <= ROOSTCORD_STATE_SIZE);
+SURELY(crc_answers, ROOSTCORD_CRC_WRONG == 0 && ROOSTCORD_CRC_FITS == 1 && ROOSTCORD_FIRST_READ == 1 && ROOSTCORD_SECOND_READ == 2);
 SURELY(clocks_as_timings, ROOSTCORD_TIMINGS_TRFCSB - ROOSTCORD_TIMINGS_TAA == ROOSTCORD_CLOCKS_TRFCSB - ROOSTCORD_CLOCKS_TAA);
 SURELY(pairs_follow, ROOSTCORD_TIMINGS_TRRD_L == ROOSTCORD_TIMINGS_TRFCSB + 1 && ROOSTCORD_TIMINGS_TRTP_CLOCKS + 1 == ROOSTCORD_TIMINGS_DATA_RATE);
 SURELY(finding_places, ROOSTCORD_FINDING_THIRD + 1 == ROOSTCORD_FINDING_COUNT);
@@ -353,6 +355,178 @@ static void every_block(const uint8_t *sample, size_t n) {
   every_part(image, n);
 }
 
+enum { STORED = 510, CRC_NEEDS = ROOSTCORD_CRC_NEEDS, FITS = ROOSTCORD_CRC_FITS, UNFIT = ROOSTCORD_CRC_WRONG, NEITHER = -ROOSTCORD_NEITHER_SOUND };
+
+static const size_t crc_reads[][2] = {{0, CRC_NEEDS}};
+
+/* The CRC of n bytes as the rest of a division, a bit at a time: the bytes with sixteen zero bits behind them, by 0x11021. */
+static unsigned crc16(const uint8_t *bytes, size_t n) {
+  unsigned rest = 0;
+  for (size_t bit = 0; bit < 8 * n + 16; bit++) {
+    rest = rest << 1 | (bit < 8 * n ? bytes[bit / 8] >> (7 - bit % 8) & 1u : 0);
+    if (rest & 0x10000) rest ^= 0x11021;
+  }
+  return rest;
+}
+
+/* The answer about the base CRC of an image. */
+static int32_t crc_of(const uint8_t *image, size_t n) {
+  if (n < CRC_NEEDS) return TRUNCATED(crc_reads, n);
+  return crc16(image, STORED) == image[STORED] + 256u * image[STORED + 1] ? FITS : UNFIT;
+}
+
+/* Gives an image the CRC that fits. */
+static void seal(uint8_t *image) {
+  unsigned crc = crc16(image, STORED);
+  image[STORED] = (uint8_t)crc, image[STORED + 1] = (uint8_t)(crc >> 8);
+}
+
+/* n bytes of their own that end at a guard page. */
+static uint8_t *guarded_copy(const uint8_t *bytes, size_t n) {
+  uint8_t *edge = guarded(n);
+  if (n) memcpy(edge, bytes, n);
+  return edge;
+}
+
+/* The CRC of an image at a guard page, of one that is exactly as long on the heap, and of a state that was fed it in bursts of that length. */
+static void crc_holds(const uint8_t *image, size_t n, size_t burst, int32_t wanted) {
+  uint8_t *edge = guarded_copy(image, n), *heap = malloc(n ? n : 1), *state = guarded(ROOSTCORD_STATE_SIZE), before[ROOSTCORD_STATE_SIZE];
+  if (n) memcpy(heap, image, n);
+  CHECK(roostcord_crc(edge, n) == wanted && roostcord_crc(n ? heap : NULL, n) == wanted);
+  CHECK(same(edge, image, n) && same(heap, image, n));
+  fresh(state);
+  for (size_t at = 0; at < n; at += burst) {
+    size_t len = n - at < burst ? n - at : burst;
+    CHECK(roostcord_pieces_feed(state, ROOSTCORD_STATE_SIZE, at, edge + at, len) == (int32_t)(at + len));
+  }
+  memcpy(before, state, sizeof before);
+  CHECK(roostcord_pieces_crc(state, ROOSTCORD_STATE_SIZE) == wanted && same(before, state, sizeof before));
+  release(edge, n), free(heap), release(state, ROOSTCORD_STATE_SIZE);
+}
+
+/* Every length up to 600, as the image is, with the CRC that fits and with its bytes exchanged; and every cut of it into two. */
+static void crc_lengths(const uint8_t *sample, size_t n) {
+  uint8_t image[ROOSTCORD_IMAGE_MAX], state[ROOSTCORD_STATE_SIZE];
+  for (size_t len = 0; len <= 600; len++) {
+    memcpy(image, sample, n);
+    crc_holds(image, len, 1 + len % 61, crc_of(image, len));
+    seal(image);
+    crc_holds(image, len, 16, len < CRC_NEEDS ? TRUNCATED(crc_reads, len) : FITS);
+    CHECK(len >= CRC_NEEDS || TRUNCATED(crc_reads, len) == -(1 + 256 * (int32_t)len));
+    uint8_t low = image[STORED], high = image[STORED + 1];
+    image[STORED] = high, image[STORED + 1] = low;
+    CHECK(low != high); /* or nothing is exchanged */
+    crc_holds(image, len, len + 1, len < CRC_NEEDS ? TRUNCATED(crc_reads, len) : UNFIT);
+  }
+  seal(image);
+  for (size_t cut = 0; cut <= n; cut++) {
+    fresh(state);
+    CHECK(roostcord_pieces_feed(state, sizeof state, 0, image, cut) == (int32_t)cut);
+    CHECK(roostcord_pieces_crc(state, sizeof state) == crc_of(image, cut));
+    CHECK(roostcord_pieces_feed(state, sizeof state, cut, image + cut, n - cut) == (int32_t)n);
+    CHECK(roostcord_pieces_crc(state, sizeof state) == FITS);
+  }
+}
+
+/* A sound block with each of its bits changed, and each of its bytes: always seen. The bytes behind it are not looked at. */
+static void crc_changes(const uint8_t *sample, size_t n) {
+  uint8_t image[ROOSTCORD_IMAGE_MAX];
+  memcpy(image, sample, n);
+  seal(image);
+  for (size_t at = 0; at < n; at++) {
+    for (unsigned change = 1; change < 256; change = change == 128 ? 255 : 2 * change) {
+      image[at] ^= (uint8_t)change;
+      CHECK(roostcord_crc(image, n) == (at < CRC_NEEDS ? UNFIT : FITS) && (at >= CRC_NEEDS || roostcord_crc(image, CRC_NEEDS) == UNFIT));
+      image[at] ^= (uint8_t)change;
+      if (change == 255) break;
+    }
+  }
+  CHECK(roostcord_crc(image, n) == FITS);
+}
+
+/* CRCs that are known: of zeros it is 0, and of the digits 1 to 9, with zeros in front, 0x31C3. */
+static void known_crcs(void) {
+  uint8_t image[CRC_NEEDS] = {0};
+  crc_holds(image, CRC_NEEDS, 16, FITS);
+  memcpy(image + STORED - 9, "123456789", 9);
+  CHECK(crc16((const uint8_t *)"123456789", 9) == 0x31C3 && crc16(image, STORED) == 0x31C3);
+  crc_holds(image, CRC_NEEDS, 16, UNFIT);
+  image[STORED] = 0xC3, image[STORED + 1] = 0x31;
+  crc_holds(image, CRC_NEEDS, 16, FITS);
+  image[STORED] = 0x31, image[STORED + 1] = 0xC3;
+  crc_holds(image, CRC_NEEDS, 16, UNFIT);
+  CHECK(roostcord_crc(NULL, 0) == -ROOSTCORD_TRUNCATED && roostcord_pieces_crc(NULL, 0) == -ROOSTCORD_LIST_TOO_SHORT);
+}
+
+/* A state of every shortness is refused 4, whatever it holds; and any bytes are a state, which counts so many of its bytes as it says. */
+static void crc_states(const uint8_t *sample, size_t n) {
+  uint8_t image[ROOSTCORD_IMAGE_MAX], state[ROOSTCORD_STATE_SIZE];
+  memcpy(image, sample, n);
+  seal(image);
+  fresh(state);
+  CHECK(roostcord_pieces_feed(state, sizeof state, 0, image, n) == (int32_t)n && roostcord_pieces_crc(state, sizeof state) == FITS);
+  for (size_t len = 0; len <= sizeof state; len++) {
+    uint8_t *edge = guarded_copy(state, len);
+    CHECK(roostcord_pieces_crc(edge, len) == (len < sizeof state ? -ROOSTCORD_LIST_TOO_SHORT : FITS) && same(edge, state, len));
+    release(edge, len);
+  }
+  for (unsigned count = 0; count < 65536; count += count % 4096 < 600 ? 1 : 97) {
+    state[0] = (uint8_t)count, state[1] = (uint8_t)(count >> 8);
+    int32_t taken = roostcord_pieces_taken(state, sizeof state);
+    CHECK(taken >= 0 && roostcord_pieces_crc(state, sizeof state) == (taken < CRC_NEEDS ? -(ROOSTCORD_TRUNCATED + 256 * taken) : FITS));
+  }
+  for (unsigned value = 0; value < 256; value++) {
+    memset(state, (int)value, sizeof state);
+    int32_t taken = roostcord_pieces_taken(state, sizeof state);
+    CHECK(roostcord_pieces_crc(state, sizeof state) == crc_of(state + 2, (size_t)taken));
+  }
+}
+
+/* Two reads, each at a guard page and neither written. */
+static void reads_hold(const uint8_t *first, size_t n, const uint8_t *second, size_t m, int32_t wanted) {
+  uint8_t *one = guarded_copy(first, n), *two = guarded_copy(second, m);
+  CHECK(roostcord_sound_read(one, n, two, m) == wanted);
+  CHECK(same(one, first, n) && same(two, second, m));
+  release(one, n), release(two, m);
+}
+
+/* Two reads of every kind, and of every length up to 600. */
+static void two_reads(const uint8_t *sample, size_t n) {
+  uint8_t sound[ROOSTCORD_IMAGE_MAX], other[ROOSTCORD_IMAGE_MAX], wrong[ROOSTCORD_IMAGE_MAX];
+  memcpy(sound, sample, n), memcpy(other, sample, n);
+  other[7] ^= 0x10, other[n - 1] ^= 1;
+  seal(sound), seal(other);
+  memcpy(wrong, sound, n);
+  wrong[300] ^= 4;
+  const struct {
+    const uint8_t *bytes;
+    size_t len;
+    int sound;
+  } reads[] = {{sound, n, 1},     {sound, CRC_NEEDS, 1},     {other, n, 1},      {wrong, n, 0}, {wrong, CRC_NEEDS, 0}, {sound, CRC_NEEDS - 1, 0},
+               {sound, STORED, 0}, {wrong, CRC_NEEDS - 1, 0}, {sound, 1, 0}, {NULL, 0, 0}};
+  enum { READS = sizeof reads / sizeof *reads };
+  for (size_t k = 0; k < READS * READS; k++) {
+    size_t a = k / READS, b = k % READS;
+    int32_t wanted = reads[a].sound ? ROOSTCORD_FIRST_READ : reads[b].sound ? ROOSTCORD_SECOND_READ : NEITHER;
+    CHECK(reads[a].sound == (crc_of(reads[a].bytes, reads[a].len) == FITS));
+    reads_hold(reads[a].bytes, reads[a].len, reads[b].bytes, reads[b].len, wanted);
+  }
+  for (size_t len = 0; len <= 600; len++) {
+    reads_hold(sound, len, other, n, len < CRC_NEEDS ? ROOSTCORD_SECOND_READ : ROOSTCORD_FIRST_READ);
+    reads_hold(wrong, n, sound, len, len < CRC_NEEDS ? NEITHER : ROOSTCORD_SECOND_READ);
+    reads_hold(sound, len, wrong, len, len < CRC_NEEDS ? NEITHER : ROOSTCORD_FIRST_READ);
+  }
+}
+
+static void every_crc(const uint8_t *sample, size_t n) {
+  CHECK(n >= 600); /* or the CRC is not tried */
+  if (n < 600) return;
+  crc_lengths(sample, n);
+  crc_changes(sample, n);
+  crc_states(sample, n);
+  two_reads(sample, n);
+}
+
 /* Lists of numbers of every length around what is asked: short ones are refused 4 and stay; else the refusal is the one that the
  * image's length and codes ask for. */
 static void every_list_length(const uint8_t *image, size_t n) {
@@ -430,6 +604,7 @@ static void as_whole(const uint8_t *state, const uint8_t *image, size_t n) {
   CHECK(roostcord_pieces_clocks(state, STATE, x, LIST) == roostcord_clocks(image, n, y, LIST) && same(x, y, sizeof x));
   CHECK(roostcord_pieces_cas_latencies(state, STATE, p, LIST) == roostcord_cas_latencies(image, n, q, LIST) && same(p, q, sizeof p));
   block_as_whole(state, image, n);
+  CHECK(roostcord_pieces_crc(state, STATE) == roostcord_crc(image, n));
   CHECK(same(before, state, STATE));
 }
 
@@ -450,6 +625,7 @@ static void short_states(const uint8_t *image, size_t n) {
     CHECK(roostcord_pieces_identity(state, len, list, LIST) == SHORT && roostcord_pieces_timings(state, len, list, LIST) == SHORT);
     CHECK(roostcord_pieces_clocks(state, len, list, LIST) == SHORT && roostcord_pieces_cas_latencies(state, len, narrow, LIST) == SHORT);
     CHECK(roostcord_pieces_manufacturing(state, len, 0, list, LIST) == SHORT && roostcord_pieces_manufacturing(state, len, 1, list, LIST) == SHORT);
+    CHECK(roostcord_pieces_crc(state, len) == SHORT);
     CHECK(roostcord_pieces_part_number(state, len, none, LIST) == SHORT && all(none, sizeof none, 0xA5) && all((uint8_t *)list, sizeof list, 0xA5));
     CHECK(len == 0 || all(state, len, 0xA5));
     release(state, len);
@@ -494,6 +670,7 @@ static void pieces(const uint8_t *image, size_t n) {
   CHECK(roostcord_pieces_taken(state, STATE) == 4095 && roostcord_pieces_feed(state, STATE, 4095, zeros, 0) == LONG);
   CHECK(roostcord_pieces_manufacturing(state, STATE, 0, list, NUMBERS) == NUMBERS && list[ROOSTCORD_MANUFACTURING_YEAR] == 2165);
   CHECK(roostcord_pieces_manufacturing(state, STATE, 1, list, NUMBERS) == -ROOSTCORD_WRONG_DATE);
+  CHECK(roostcord_pieces_crc(state, STATE) == crc_of(state + 2, CRC_NEEDS));
   release(state, STATE);
 }
 
@@ -822,6 +999,7 @@ int main(int argc, char **argv) {
     if (n > IMAGE_MAX) n = IMAGE_MAX;
     every_refusal(image, n);
     every_block(image, n);
+    every_crc(image, n);
     pieces(image, n);
     CHECK(n > 2 * BURST); /* or the feeding loop is not tried */
     if (n <= 2 * BURST) continue;
@@ -832,6 +1010,7 @@ int main(int argc, char **argv) {
     files(image, n);
   }
   largest_report();
+  known_crcs();
   printf("test: %ld checks, %ld faults\n", checks, faults);
   return faults != 0;
 }
