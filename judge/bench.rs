@@ -5,7 +5,7 @@ mod images;
 mod ours;
 mod stack;
 
-use images::{PROFILES, Rng, put_block, put16};
+use images::{PROFILES, Rng, STORED_CRC, put_block, put16, seal};
 use spdr::Finding;
 use std::hint::black_box;
 use std::process::Command;
@@ -43,6 +43,13 @@ fn labelled(count: usize) -> Vec<Labelled> {
         image
     };
     mixed(count).iter().enumerate().map(one).collect()
+}
+
+/// Mixed images, of which every other has a base CRC that fits.
+fn sealed(count: usize) -> Vec<Image> {
+    let mut images = mixed(count);
+    images.iter_mut().step_by(2).for_each(|image| seal(image));
+    images
 }
 
 /// Sound images that differ in bytes that have no rule.
@@ -130,6 +137,25 @@ fn manufacturing_ours() -> impl FnMut(&Labelled) {
 fn manufacturing_rust() -> impl FnMut(&Labelled) {
     |image| {
         let _ = black_box(spdr::decode_manufacturing(black_box(image)));
+    }
+}
+
+fn crc_ours() -> impl FnMut(&Image) {
+    |image| {
+        black_box(ours::crc(black_box(image)));
+    }
+}
+
+/// The CRC of the bytes that are covered, without a look at the one that is stored.
+fn crc_rust() -> impl FnMut(&Image) {
+    |image| {
+        black_box(spdr::crc16(&black_box(image)[..STORED_CRC]));
+    }
+}
+
+fn verify_rust() -> impl FnMut(&Image) {
+    |image| {
+        let _ = black_box(spdr::verify_base_crc(black_box(image)));
     }
 }
 
@@ -268,6 +294,9 @@ fn run_family(name: &str, passes: usize) -> bool {
         "timings-rust" => run(mixed, passes, timings_rust()),
         "manufacturing-ours" => run(labelled, passes, manufacturing_ours()),
         "manufacturing-rust" => run(labelled, passes, manufacturing_rust()),
+        "crc-ours" | "verify-ours" => run(sealed, passes, crc_ours()),
+        "crc-rust" => run(sealed, passes, crc_rust()),
+        "verify-rust" => run(sealed, passes, verify_rust()),
         "bursts-ours" => run(mixed, passes, bursts_ours()),
         "report-ours" => run(reports, passes, report_ours()),
         "nothing" => run(mixed, passes, nothing()),
@@ -329,6 +358,10 @@ fn print_machine() {
          hands back the length of one without its spaces, the Rust the text"
     );
     println!(
+        "- crc: the mixed images, every other with a base CRC that fits; ours reckons it over {STORED_CRC} bytes and holds it to the one that is \
+         stored, and so does the Rust's `verify_base_crc`; its `crc16` only reckons"
+    );
+    println!(
         "- fixed: {FIXED} images in one order over and over; shuffled: {SHUFFLED} images, an order that is new in each round"
     );
     println!(
@@ -366,6 +399,12 @@ fn check_images() {
         let both = spdr::decode_manufacturing(image)
             .is_ok_and(|m| (m.serial_number.0, m.part_number.len()) == (out[5], out[10] as usize));
         assert!(answer == 11 && both, "an image has another manufacturing block than the Rust's: see the judge");
+    }
+    // Both sides reckon all of it: of every other image it fits, by either of the Rust's calls, and of the others, which have a byte changed, not.
+    for (i, image) in sealed(SHUFFLED).iter().enumerate() {
+        let fits = spdr::verify_base_crc(image).is_ok_and(|s| s.matches && s.computed == spdr::crc16(&image[..STORED_CRC]));
+        assert!(ours::crc(image) == i32::from(fits), "an image has another CRC than the Rust's: see the judge");
+        assert!(fits || i % 2 == 1, "an image that was sealed has another CRC");
     }
 }
 
@@ -405,6 +444,8 @@ fn print_against_rust(own: Option<f64>) {
     print_rows("timings, mixed", "timings", mixed, timings_ours(), timings_rust(), own);
     let labelled_own = instructions("nothing-labelled");
     print_rows("manufacturing", "manufacturing", labelled, manufacturing_ours(), manufacturing_rust(), labelled_own);
+    print_rows("crc, 510 bytes", "crc", sealed, crc_ours(), crc_rust(), own);
+    print_rows("crc, 510 bytes, against `verify_base_crc`", "verify", sealed, crc_ours(), verify_rust(), own);
     let f = compare(&mixed(FIXED), false, bursts_ours(), lint_rust());
     println!(
         "| 512 bytes in 32 bursts, then lint, against the Rust's lint of the whole image; mixed, fixed | {} | {} | {} |",
@@ -444,8 +485,11 @@ fn arguments(name: &str, image: &Labelled, report: &Image, state: &mut [u8], out
     let filled = out.as_mut_ptr() as usize;
     match name {
         "roostcord_report" => [report.as_ptr() as usize, LEN, filled, out.len(), 0],
-        "roostcord_pieces_fresh" | "roostcord_pieces_taken" => [at, state.len(), 0, 0, 0],
+        "roostcord_pieces_fresh" | "roostcord_pieces_taken" | "roostcord_pieces_crc" => [at, state.len(), 0, 0, 0],
         "roostcord_pieces_feed" => [at, state.len(), LEN - 16, image[LEN - 16..].as_ptr() as usize, 16],
+        "roostcord_crc" => [image.as_ptr() as usize, image.len(), 0, 0, 0],
+        // Neither read is sound: a mixed image seldom has a base CRC that fits, and a report none.
+        "roostcord_sound_read" => [image.as_ptr() as usize, image.len(), report.as_ptr() as usize, LEN, 0],
         "roostcord_manufacturing" => [image.as_ptr() as usize, image.len(), 0, filled, out.len()],
         "roostcord_pieces_manufacturing" => [at, state.len(), 0, filled, out.len()],
         _ if name.starts_with("roostcord_pieces") => [at, state.len(), filled, out.len(), 0],

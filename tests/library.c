@@ -428,7 +428,7 @@ static void crc_lengths(const uint8_t *sample, size_t n) {
   }
 }
 
-/* A sound block with each of its bits changed, and each of its bytes: always seen. The bytes behind it are not looked at. */
+/* A sound block with each of its bits changed, and all eight of each byte: always seen. The bytes behind it are not looked at. */
 static void crc_changes(const uint8_t *sample, size_t n) {
   uint8_t image[ROOSTCORD_IMAGE_MAX];
   memcpy(image, sample, n);
@@ -438,7 +438,6 @@ static void crc_changes(const uint8_t *sample, size_t n) {
       image[at] ^= (uint8_t)change;
       CHECK(roostcord_crc(image, n) == (at < CRC_NEEDS ? UNFIT : FITS) && (at >= CRC_NEEDS || roostcord_crc(image, CRC_NEEDS) == UNFIT));
       image[at] ^= (uint8_t)change;
-      if (change == 255) break;
     }
   }
   CHECK(roostcord_crc(image, n) == FITS);
