@@ -100,9 +100,11 @@ fn two_reads(image: &[u8], copies: &mut Copies, rng: &mut Rng) -> Result<Sound, 
         (false, true) => (Sound::Second, 2),
         (false, false) => (Sound::Neither, refusal(21, 0, 0)),
     };
-    let what = || format!("reads of {} and {} bytes", first.len(), second.len());
     let word = ours::sound_read(first, second);
-    if word == wanted { Ok(sound) } else { Err(format!("{}: answer {word}, should be {wanted}", what())) }
+    if word != wanted {
+        return Err(format!("reads of {} and {} bytes: answer {word}, should be {wanted}", first.len(), second.len()));
+    }
+    Ok(sound)
 }
 
 fn some_read<'a>(image: &'a [u8], sealed: &'a [u8], rng: &mut Rng) -> &'a [u8] {
