@@ -1,10 +1,12 @@
 // Runs what is only run of feeding by pieces, and writes what happened: the bench lines on pieces, the run of the forty certificates,
-// every cut of an image into two, bursts out of order, and a run up to the longest image.
+// every cut of an image into two, bursts out of order, a run up to the longest image, and two reads of which one is sound.
 //
 // A state answers as the whole image does where every field of each record, or the refusal and what it carries, and every finding with
 // all its numbers are the same. Each field is made one number for that, a time and its clocks together.
 ghost use Prim.Native.Nat.{_≤_};
 ghost use lib.ListN.{length};
+use crc::CrcAnswer;
+use crc::SoundRead;
 use decoders::identity::IdentityAndBase;
 use decoders::identity::IdentityAnswer;
 use decoders::timing::Picoseconds;
@@ -24,23 +26,27 @@ use printing::refused;
 use printing::text;
 use reading::Refusal;
 
-// What is answered of an image: three records as numbers, the block once more in the strict mode, the part number, and the findings.
+// What is answered of an image: three records as numbers, the block once more in the strict mode, the part number, the check of the base CRC
+// and the findings.
 struct Answers {
     identity: [u64; 23],
     timings: [u64; 23],
     block: [u64; 23],
     strict: [u64; 23],
     part: PartNumber,
+    crc: [u64; 23],
     findings: Findings,
 }
 
-// How many fields of each record, bytes of the part number and places of the fifteen for findings differ between two of those.
+// How many fields of each record, bytes of the part number, answers to the check and places of the fifteen for findings differ between two
+// of those.
 struct Differing {
     identity: usize,
     timings: usize,
     block: usize,
     strict: usize,
     part: usize,
+    crc: usize,
     findings: usize,
 }
 
@@ -69,7 +75,7 @@ fn pattern() -> [u8; 576] {
 }
 
 // The same with a DDR5 identity: a hybrid UDIMM of two 16-bit channels, with 3DS devices of 32 bits. It breaks rules of every code but 5 and 9.
-// Its week is no digits, and a space ends its part number.
+// Its week is no digits, a space ends its part number, and its base CRC fits.
 fn sample() -> [u8; 576] {
     let mut image = pattern();
     image[0] = 0x30;
@@ -83,6 +89,15 @@ fn sample() -> [u8; 576] {
     image[234] = 0x29;
     image[235] = 0x21;
     image[550] = 0x20;
+    with_crc(image)
+}
+
+// With the CRC of its first 510 bytes behind them, low byte first.
+fn with_crc(unchecked: [u8; 576]) -> [u8; 576] {
+    let mut image = unchecked;
+    let crc = crc::crc16(&unchecked[0..510]);
+    image[510] = (crc % 256) as u8;
+    image[511] = (crc / 256) as u8;
     image
 }
 
@@ -236,6 +251,18 @@ fn block_numbers(answer: ManufacturingAnswer) -> [u64; 23] {
     }
 }
 
+// The check's answer behind three zeros, 1 where the CRC fits.
+fn crc_numbers(answer: CrcAnswer) -> [u64; 23] {
+    match answer {
+        CrcAnswer::Matches(matches) => {
+            let mut numbers = [0u64; 23];
+            numbers[3] = bit(matches);
+            numbers
+        }
+        CrcAnswer::Refused(why) => refusal_numbers(why),
+    }
+}
+
 // How many bytes of two part numbers differ, and one more where their lengths do.
 fn unequal_parts(a: PartNumber, b: PartNumber) -> usize {
     let left = a.bytes;
@@ -309,12 +336,14 @@ fn whole(image: &[u8]) -> Answers {
     let block = block_numbers(manufacturing::decode_manufacturing(image, DateMode::AsIs));
     let strict = block_numbers(manufacturing::decode_manufacturing(image, DateMode::Strict));
     let part = manufacturing::part_number_kept(image);
+    let crc = crc_numbers(crc::verify_base_crc(image));
     Answers {
         identity,
         timings,
         block,
         strict,
         part,
+        crc,
         findings,
     }
 }
@@ -328,12 +357,14 @@ fn asked(state: Pieces) -> Answers {
     let block = block_numbers(state.manufacturing(DateMode::AsIs));
     let strict = block_numbers(state.manufacturing(DateMode::Strict));
     let part = state.part_number();
+    let crc = crc_numbers(state.verify_base_crc());
     Answers {
         identity,
         timings,
         block,
         strict,
         part,
+        crc,
         findings,
     }
 }
@@ -349,6 +380,8 @@ fn beside(a: Answers, b: Answers) -> Differing {
     let b_strict = b.strict;
     let a_part = a.part;
     let b_part = b.part;
+    let a_crc = a.crc;
+    let b_crc = b.crc;
     let a_findings = a.findings;
     let b_findings = b.findings;
     Differing {
@@ -357,6 +390,7 @@ fn beside(a: Answers, b: Answers) -> Differing {
         block: unequal(a_block, b_block),
         strict: unequal(a_strict, b_strict),
         part: unequal_parts(a_part, b_part),
+        crc: unequal(a_crc, b_crc),
         findings: unequal_findings(a_findings, b_findings),
     }
 }
@@ -379,6 +413,9 @@ fn same(a: Answers, b: Answers) -> bool {
         return false;
     }
     if d.part != 0 {
+        return false;
+    }
+    if d.crc != 0 {
         return false;
     }
     d.findings == 0
@@ -439,8 +476,53 @@ fn certificates(image: [u8; 576], twice: usize) {
     text(b" of 10 numbers of the block,");
     number(d.part);
     text(b" of the part number,");
+    number(d.crc);
+    text(b" of 1 CRC check,");
     number(d.findings);
     text(b" findings\n");
+}
+
+// Two reads: which of them is sound, how many bytes its base block has, and how many of those are the image's.
+fn two_reads<'a>(first: &'a [u8], second: &'a [u8], image: &[u8]) {
+    match crc::sound_read(first, second) {
+        SoundRead::First => text(b" the first,"),
+        SoundRead::Second => text(b" the second,"),
+        SoundRead::Refused(why) => refused(why),
+    }
+    let block = crc::base_block(first, second);
+    number(block.len());
+    number(equal_bytes(block, image));
+}
+
+// How many bytes are as those of the image in the same places.
+fn equal_bytes(bytes: &[u8], image: &[u8]) -> usize {
+    let mut equal: usize = 0;
+    let mut i: usize = 0;
+    while i < bytes.len() {
+        if i < image.len() {
+            if bytes[i] == image[i] {
+                if equal < 65536 {
+                    equal += 1;
+                }
+            }
+        }
+        i += 1;
+    }
+    equal
+}
+
+// Of a read that was taken by arrival and one that was not, in either order and each beside itself, and of one that ends before its CRC does.
+fn reads<'a>(image: &'a [u8], bent: &'a [u8]) {
+    if image.len() < 576 {
+        return;
+    }
+    text(b"reads:");
+    two_reads(image, bent, image);
+    two_reads(bent, image, image);
+    two_reads(image, image, image);
+    two_reads(bent, bent, image);
+    two_reads(&image[0..511], &image[0..512], image);
+    text(b"\n");
 }
 
 // Whether an image that is cut in two there gives the answers.
@@ -552,6 +634,13 @@ fn about(image: &[u8]) {
     text(b", bytes of its part number");
     let part = answers.part;
     number(part.len);
+    text(b"\ncrc: of nine digits");
+    number(crc::crc16(b"123456789") as usize);
+    text(b", the image's is refused");
+    let crc = answers.crc;
+    number(crc[0] as usize);
+    text(b", fits");
+    number(crc[3] as usize);
     text(b"\n");
 }
 
@@ -571,4 +660,6 @@ fn main() {
     run(&bytes);
     certificates(bytes, 0);
     certificates(bytes, 64);
+    let bent = by_arrival(bytes, 64);
+    reads(&bytes, &bent);
 }
