@@ -7,3 +7,4 @@ pub mod Reach
 pub mod Refused
 pub mod Once
 pub mod Worked
+pub mod Seen
