@@ -3,11 +3,12 @@
 use Prim.Native.Nat.{ℕ, zero, suc, _+_, _*_, _/_, _%_, _^_, _<_}
 use mathlib.Core.Path.{_≡_, refl, sym, ap, ap₂, _∙_}
 use mathlib.Core.Bool.{true}
-use mathlib.Core.List.{List, [], _∷_}
-use native.Mathlib.Nat.{zero-add, mul-one}
+use mathlib.Core.List.{[], _∷_}
+use native.Mathlib.Nat.{zero-add}
 use native.Mathlib.Omega.{arith}
-use lib.Bits.{bitXor}
+use lib.Bits.{bitXor, xor-comm}
 use Rattle.crc.specs.Crc.{shifted, shifts, byteIn, crcFrom}
+use Rattle.crc.proofs.Xor.{xor-assoc}
 use Rattle.crc.proofs.Linear.{Linear, lin-id, lin-after, lin-sum, lin-shr, lin-mod, lin-times, lin-shl, sameBits, by-bits}
 use Rattle.crc.proofs.Laws.{shifts-linear}
 
@@ -102,14 +103,28 @@ enters m t r v b h e =
     (lin-after eight (λ b. b * 2 ^ m) eight-linear (lin-times m)) 8 t b h)
     ∙ sym (eight-linear v (b * 2 ^ m))
 
--- the register and eight bytes, each in its place, as one number
-abbrev pub word : (r b0 b1 b2 b3 b4 b5 b6 b7 : ℕ) → ℕ
-word r b0 b1 b2 b3 b4 b5 b6 b7 = bitXor (bitXor (bitXor (bitXor (bitXor (bitXor (bitXor (bitXor r b0) b1) b2) b3) b4) b5) b6) b7
+-- eight bytes, each in its place, as one number
+abbrev pub word : (b0 b1 b2 b3 b4 b5 b6 b7 : ℕ) → ℕ
+word b0 b1 b2 b3 b4 b5 b6 b7 = bitXor (bitXor (bitXor (bitXor (bitXor (bitXor (bitXor b0 b1) b2) b3) b4) b5) b6) b7
+
+-- the register may be added to them last
+past : (a r b : ℕ) {x : ℕ} → x ≡ bitXor a r → bitXor x b ≡ bitXor (bitXor a b) r
+past a r b e = ap (λ (y : ℕ). bitXor y b) e ∙ xor-assoc a r b ∙ ap (bitXor a) (xor-comm r b) ∙ sym (xor-assoc a b r)
+
+added-last : (r b0 b1 b2 b3 b4 b5 b6 b7 : ℕ) → word (bitXor r b0) b1 b2 b3 b4 b5 b6 b7 ≡ bitXor (word b0 b1 b2 b3 b4 b5 b6 b7) r
+added-last r b0 b1 b2 b3 b4 b5 b6 b7 =
+    let w1 : ℕ = bitXor b0 b1 in
+    let w2 : ℕ = bitXor w1 b2 in
+    let w3 : ℕ = bitXor w2 b3 in
+    let w4 : ℕ = bitXor w3 b4 in
+    let w5 : ℕ = bitXor w4 b5 in
+    let w6 : ℕ = bitXor w5 b6 in
+    past w6 r b7 (past w5 r b6 (past w4 r b5 (past w3 r b4 (past w2 r b3 (past w1 r b2 (past b0 r b1 (xor-comm r b0)))))))
 
 module _ (r b0 b1 b2 b3 b4 b5 b6 b7 : ℕ) where
   pub eight-once : r < 65536 → b0 < 256 → b1 < 256 → b2 < 256 → b3 < 256 → b4 < 256 → b5 < 256 → b6 < 256 → b7 < 256
       → crcFrom r (b0 ∷ b1 ∷ b2 ∷ b3 ∷ b4 ∷ b5 ∷ b6 ∷ b7 ∷ [])
-      ≡ eight (word (r * 2 ^ 48) (b0 * 2 ^ 56) (b1 * 2 ^ 48) (b2 * 2 ^ 40) (b3 * 2 ^ 32) (b4 * 2 ^ 24) (b5 * 2 ^ 16) (b6 * 2 ^ 8) (b7 * 2 ^ 0))
+      ≡ eight (bitXor (word (b0 * 2 ^ 56) (b1 * 2 ^ 48) (b2 * 2 ^ 40) (b3 * 2 ^ 32) (b4 * 2 ^ 24) (b5 * 2 ^ 16) (b6 * 2 ^ 8) (b7 * 2 ^ 0)) (r * 2 ^ 48))
   eight-once h h0 h1 h2 h3 h4 h5 h6 h7 =
       enters 0 (moved .0) _ _ b7 h7
       (enters 8 (moved .1) _ _ b6 h6
@@ -119,3 +134,4 @@ module _ (r b0 b1 b2 b3 b4 b5 b6 b7 : ℕ) where
       (enters 40 (moved .5) _ _ b2 h2
       (enters 48 (moved .6) _ _ b1 h1
       (enters 56 (moved .7) _ _ b0 h0 (start r h))))))))
+      ∙ ap eight (added-last (r * 2 ^ 48) (b0 * 2 ^ 56) (b1 * 2 ^ 48) (b2 * 2 ^ 40) (b3 * 2 ^ 32) (b4 * 2 ^ 24) (b5 * 2 ^ 16) (b6 * 2 ^ 8) (b7 * 2 ^ 0))

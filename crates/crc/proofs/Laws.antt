@@ -1,6 +1,6 @@
 -- The laws of the CRC. Assumes nothing.
 use Prim.Native.Nat.{ℕ, zero, suc, _+_, _*_, _/_, _%_, _<_, _≤_}
-use mathlib.Core.Path.{_≡_, refl, sym, ap, ap₂, _∙_}
+use mathlib.Core.Path.{_≡_, refl, sym, ap, _∙_}
 use mathlib.Core.List.{List, [], _∷_, _++_}
 use native.Mathlib.Omega.{arith}
 use native.Mathlib.Numerals.{add-one}
@@ -9,7 +9,7 @@ use lib.Seq.{drop-cons}
 use lib.Bits.{bitXor}
 use Rattle.crc.specs.Crc.{shifted, shifts, byteIn, crcFrom, crcOf, xorOf}
 use Rattle.crc.proofs.Xor.{medial}
-use Rattle.crc.proofs.Linear.{Linear, lin-sum, lin-after, lin-times, lin-shl, lin-bit}
+use Rattle.crc.proofs.Linear.{Linear, lin-sum, lin-times, lin-shl, lin-bit}
 
 -- ---- LINEAR: of byte strings of one length, the CRC of the exclusive or is the exclusive or of the CRCs
 

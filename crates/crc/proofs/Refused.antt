@@ -1,9 +1,8 @@
 -- The check is refused 1 exactly where a byte of its range is missing, with the smallest such offset; it has no other refusal. Else it answers
 -- for the first 510 bytes and the two behind them. Assumes nothing.
 use Prim.Native.Nat.{ℕ, _+_, _*_, _≤_}
-use mathlib.Core.Path.{_≡_, refl, subst, ap}
+use mathlib.Core.Path.{_≡_, refl, subst}
 use mathlib.Core.List.{List}
-use mathlib.Core.Bool.{Bool}
 use lib.Dec.{eqb}
 use lib.ListN.{length, getD, take}
 use native.Mathlib.Omega.{arith}

@@ -1,7 +1,7 @@
 -- Document 02, 2026-03: the check of the base block, and the sound one of two reads. Assumes nothing.
 use Prim.Native.Nat.{ℕ, _+_, _*_}
 use mathlib.Core.List.{List, [], _∷_}
-use mathlib.Core.Bool.{Bool, true, false}
+use mathlib.Core.Bool.{Bool, false}
 use lib.Dec.{eqb}
 use lib.ListN.{take}
 use Rattle.reading.specs.Pick.{pick}

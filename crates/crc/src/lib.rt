@@ -121,7 +121,7 @@ fn crc16_rest(before: u16, bytes: &[u8]) -> u16
     crc
 }
 
-// One byte, without a loop over its bits: x is what divides the bits that leave the register, and 0x1021 times it is taken away.
+// One byte, without a loop over its bits: x is the quotient of what leaves the register by the polynomial, and 0x1021 times x is what stays.
 fn step(crc: u16, byte: u8) -> u16
     ensures { λ r. ⌜ r ≡ byteIn crc byte ⌝ }
 {
@@ -131,13 +131,12 @@ fn step(crc: u16, byte: u8) -> u16
     (v << 8) ^ ((x << 12) ^ (x << 5) ^ x)
 }
 
-// Eight bytes likewise, as one number of 64 bits with the register in front of it. Its quotient by the polynomial comes from four lines, each
-// of which squares the factor of the one before.
+// Eight bytes likewise, as one number of 64 bits with the register added to its front. The quotient by the polynomial comes from four lines,
+// each of which squares the factor of the one before.
 fn step_eight(crc: u16, b0: u8, b1: u8, b2: u8, b3: u8, b4: u8, b5: u8, b6: u8, b7: u8) -> u16
     ensures { λ r. ⌜ r ≡ crcFrom crc (b0 ∷ b1 ∷ b2 ∷ b3 ∷ b4 ∷ b5 ∷ b6 ∷ b7 ∷ []) ⌝ }
 {
-    let v = ((crc as u64) << 48)
-        ^ ((b0 as u64) << 56)
+    let word = ((b0 as u64) << 56)
         ^ ((b1 as u64) << 48)
         ^ ((b2 as u64) << 40)
         ^ ((b3 as u64) << 32)
@@ -145,6 +144,7 @@ fn step_eight(crc: u16, b0: u8, b1: u8, b2: u8, b3: u8, b4: u8, b5: u8, b6: u8, 
         ^ ((b5 as u64) << 16)
         ^ ((b6 as u64) << 8)
         ^ (b7 as u64);
+    let v = word ^ ((crc as u64) << 48);
     let x1 = v ^ (v >> 4) ^ (v >> 11) ^ (v >> 16);
     let x2 = x1 ^ (x1 >> 8) ^ (x1 >> 22) ^ (x1 >> 32);
     let x4 = x2 ^ (x2 >> 16) ^ (x2 >> 44);

@@ -1,5 +1,5 @@
 -- `crc::step` meets its contract: the byte is added to the register's high half, and that moves up at once. Assumes nothing.
-use Prim.Native.Nat.{ℕ, _*_, _%_, _<_}
+use Prim.Native.Nat.{ℕ, _*_, _%_}
 use mathlib.Core.Path.{_≡_, sym, ap, _∙_}
 use native.Mathlib.Omega.{arith}
 use lib.Bits.{bitXor, xor-lt}

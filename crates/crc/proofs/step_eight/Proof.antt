@@ -21,9 +21,11 @@ returns c =
     let r : ℕ = a .crc in
     (λ i.
     eight
-    (word (shl-exact {a = r} 16 48 64 (omega arith) (omega arith) i) (kept (a .b0) 56 (omega arith) (omega arith) i) (kept (a .b1) 48 (omega arith) (omega arith) i)
-    (kept (a .b2) 40 (omega arith) (omega arith) i) (kept (a .b3) 32 (omega arith) (omega arith) i) (kept (a .b4) 24 (omega arith) (omega arith) i)
-    (kept (a .b5) 16 (omega arith) (omega arith) i) (kept (a .b6) 8 (omega arith) (omega arith) i) (sym (mul-one (a .b7)) i)))
+    (bitXor
+    (word (kept (a .b0) 56 (omega arith) (omega arith) i) (kept (a .b1) 48 (omega arith) (omega arith) i) (kept (a .b2) 40 (omega arith) (omega arith) i)
+    (kept (a .b3) 32 (omega arith) (omega arith) i) (kept (a .b4) 24 (omega arith) (omega arith) i) (kept (a .b5) 16 (omega arith) (omega arith) i)
+    (kept (a .b6) 8 (omega arith) (omega arith) i) (sym (mul-one (a .b7)) i))
+    (shl-exact {a = r} 16 48 64 (omega arith) (omega arith) i)))
     ∙ sym
     (eight-once r (a .b0) (a .b1) (a .b2) (a .b3) (a .b4) (a .b5) (a .b6) (a .b7) (omega arith) (omega arith) (omega arith) (omega arith) (omega arith)
     (omega arith) (omega arith) (omega arith) (omega arith))

@@ -1,7 +1,7 @@
 -- `crc::verify_base_crc` meets its contract: the CRC of the covered bytes and the two bytes behind them are the definition's.
 -- Assumes nothing.
 use Prim.Native.Nat.{_+_, _*_}
-use mathlib.Core.Path.{refl, sym, ap, _∙_}
+use mathlib.Core.Path.{sym, ap, _∙_}
 use native.Mathlib.Omega.{arith}
 use lib.Dec.{eqb}
 use lib.Seq.{length-take-le}
