@@ -1,9 +1,9 @@
--- Document 01, rules 2 and 3: what each says of a record's values. Assumes nothing.
-use Prim.Native.Nat.{ℕ, zero, suc, _+_, _/_, _%_}
+-- Document 01, rules 2 and 3: what each says of a record's values; the ladder as document 02, 2026-04, has it. Assumes nothing.
+use Prim.Native.Nat.{ℕ, _+_, _/_, _%_}
 use mathlib.Core.List.{List, [], _∷_}
-use mathlib.Core.Bool.{Bool, true, false}
-use lib.Dec.{eqb, ltb}
-use Rattle.reading.specs.Pick.{pick}
+use mathlib.Core.Bool.{Bool}
+use lib.Dec.{eqb, ltb, leb}
+use Rattle.reading.specs.Pick.{pick, and}
 use Rattle.findings.specs.declared.Found.{Found}
 use Rattle.findings.specs.declared.Found.the-variants.{Nothing, One}
 use Rattle.decoders.specs.Codes.{bitsIn}
@@ -65,18 +65,9 @@ clockMultiple param value tck =
     pick (eqb tck 0) Nothing
     (pick (eqb (value % tck) 0) Nothing (One (nonIntegerClockTiming param value tck)))
 
--- n rates from one on, in steps of 400
-abbrev pub steps : ℕ → ℕ → List ℕ
-steps rate zero = []
-steps rate (suc n) = rate ∷ steps (rate + 400) n
-
-abbrev pub isIn : ℕ → List ℕ → Bool
-isIn x [] = false
-isIn x (y ∷ l) = pick (eqb y x) true (isIn x l)
-
--- the ladder: 3200 to 8800 in steps of 400, fifteen rates
+-- the ladder: a multiple of 400 from 3200 to 8800
 unfoldable pub onLadder : ℕ → Bool
-onLadder rate = isIn rate (steps 3200 15)
+onLadder rate = and (leb 3200 rate) (and (leb rate 8800) (eqb (rate % 400) 0))
 
 -- silent with rate 0
 abbrev pub standardRate : (rate : ℕ) → Found

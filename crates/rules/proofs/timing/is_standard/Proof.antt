@@ -1,11 +1,8 @@
--- `rules::timing::is_standard` meets its contract: the one rung that the rate can be is the one that is looked at.
+-- `rules::timing::is_standard` meets its contract: each test is one of the rule's.
 -- Assumes nothing.
-use Prim.Native.Nat.{_-_, _/_}
-use mathlib.Core.Path.{sym, _∙_}
 use native.Mathlib.Omega.{arith}
-use borrow.Author.Needs.{needs}
+use borrow.Author.Tests.{le-leb, lt-leb}
 use Rattle.rules.specs.Rules.{onLadder}
-use Rattle.rules.proofs.Ladder.{rung, on, off}
 use Rattle.rules.proofs.timing.is_standard.Statement.{statement}
 use Rattle.rules.proofs.timing.is_standard.Tie as tie
 
@@ -14,16 +11,10 @@ unfolding onLadder
 is-standard-spec =
     tie.close
     (tie.spec
-    (λ c. sym (off (c .before .args .rate) 3200 15 (λ j l e. omega arith)))
-    (λ c. sym (off (c .before .before .args .rate) 3200 15 (λ j l e. omega arith)))
-    (λ c. search needs)
-    (λ c. search needs)
-    (λ c. search needs)
+    (λ c. rw (lt-leb 3200 (c .before .args .rate) (omega arith)))
     (λ c.
-    let x = c .before .before .before .args .rate in
-    let k = (x - 3200) / 400 in
-    sym (on x 3200 15 k (omega arith) (sym (rung 3200 15 k (omega arith)) ∙ c .if3 .taken)))
+    let rate = c .before .before .args .rate in
+    rw (le-leb 3200 rate (omega arith), lt-leb rate 8800 (omega arith)))
     (λ c.
-    let x = c .before .before .before .args .rate in
-    let k = (x - 3200) / 400 in
-    sym (off x 3200 15 (λ j l e. c .if3 .left (rung 3200 15 k (omega arith) ∙ omega arith)))))
+    let rate = c .before .before .args .rate in
+    rw (le-leb 3200 rate (omega arith), le-leb rate 8800 (omega arith))))
