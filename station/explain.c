@@ -116,7 +116,7 @@ const char *explain_finding(const uint32_t finding[ROOSTCORD_FINDING_COUNT], cha
     case ROOSTCORD_CODE_CAS_LATENCY_NOT_SUPPORTED: explain_latency(code, first, second, text); break;
     case ROOSTCORD_CODE_NON_STANDARD_DATA_RATE:
       snprintf(text, SENTENCE_MAX,
-               "Bytes 20 and 21 (tCKmin) make %lu MT/s, which is none of 3200 to 8800 in steps of 400: certify it as what it says, or ask "
+               "Bytes 20 and 21 (tCKmin) make %lu MT/s, which is no multiple of 400 from 3200 to 8800: certify it as what it says, or ask "
                "the maker.",
                first);
       break;
