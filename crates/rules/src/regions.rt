@@ -39,7 +39,7 @@ fn check_reserved_region(image: &[u8], i: usize) -> Found
     first_nonzero(image, REGION_OFFSETS[i], REGION_LENGTHS[i])
 }
 
-// Eight bytes at a time while they are all zero, then byte by byte.
+// Eight bytes at a time while they are all zero, then what is left.
 fn first_nonzero(image: &[u8], offset: u16, len: u16) -> Found
     ensures { λ r. ⌜ r ≡ regionAt offset len (view (now (image .entry))) ⌝ }
 {
@@ -54,7 +54,24 @@ fn first_nonzero(image: &[u8], offset: u16, len: u16) -> Found
         }
         i += 8;
     }
-    first_nonzero_byte(image, i, end)
+    if len < 8 {
+        return first_nonzero_byte(image, i, end);
+    }
+    last_bytes(image, i, end)
+}
+
+// Fewer than eight bytes behind some that are zero. The last eight are one load; only where they are not all zero does one look at each.
+fn last_bytes(image: &[u8], from: usize, end: usize) -> Found
+    requires { ⌜ (from ≤ end) × (end ≤ from + 8) × (8 ≤ end) × (end ≤ length (now image)) × (end < 131072) ⌝ }
+    ensures { λ r. ⌜ r ≡ firstFrom (view (now (image .entry))) from (end - from) ⌝ }
+{
+    if from == end {
+        return Found::Nothing;
+    }
+    if eight_bytes(image, end - 8) == 0 {
+        return Found::Nothing;
+    }
+    first_nonzero_byte(image, from, end)
 }
 
 fn first_nonzero_byte(image: &[u8], from: usize, end: usize) -> Found

@@ -59,8 +59,16 @@ first-nonzero-byte-requires-2 c κs = (omega arith, omega arith, omega arith)
 
 returns-3 : tie.Need-returns-3 Inv-loop μ-loop
 returns-3 c =
-    let l = c .before .before in
+    let l = c .before .before .before in
     simp (le-ltb _ _ (l .before .if1 .left)) (c .first-nonzero-byte2 .ensures ∙ l .loop .inv .1)
+
+last-bytes-requires : tie.Need-last-bytes-requires Inv-loop μ-loop
+last-bytes-requires c κs = (omega arith, omega arith, omega arith, omega arith, omega arith)
+
+returns-4 : tie.Need-returns-4 Inv-loop μ-loop
+returns-4 c =
+    let l = c .before .before .before in
+    simp (le-ltb _ _ (l .before .if1 .left)) (c .last-bytes .ensures ∙ l .loop .inv .1)
 
 pub first-nonzero-spec : {M : Type 1} → statement M
 first-nonzero-spec =
@@ -79,4 +87,6 @@ first-nonzero-spec =
     loop-less
     loop-again
     first-nonzero-byte-requires-2
-    returns-3)
+    returns-3
+    last-bytes-requires
+    returns-4)
