@@ -1,5 +1,6 @@
 // Runs what is only run of feeding by pieces, and writes what happened: the bench lines on pieces, the run of the forty certificates,
-// every cut of an image into two, bursts out of order, a run up to the longest image, and two reads of which one is sound.
+// every cut of an image into two, bursts out of order, a run up to the longest image, two reads of which one is sound, and all of an image's
+// cuts under each edition.
 //
 // A state answers as the whole image does where every field of each record, or the refusal and what it carries, and every finding with
 // all its numbers are the same. Each field is made one number for that, a time and its clocks together.
@@ -25,6 +26,7 @@ use printing::number;
 use printing::refused;
 use printing::text;
 use reading::Refusal;
+use rules::Edition;
 
 // What is answered of an image: three records as numbers, the block once more in the strict mode, the part number, the check of the base CRC
 // and the findings.
@@ -328,8 +330,8 @@ fn unequal_findings(a: Findings, b: Findings) -> usize {
     count
 }
 
-fn whole(image: &[u8]) -> Answers {
-    let linted = rules::lint_image(image);
+fn whole(image: &[u8], edition: Edition) -> Answers {
+    let linted = rules::lint_image(image, edition);
     let findings = linted.findings;
     let identity = identity_numbers(decoders::identity::decode_identity_and_base(image));
     let timings = timing_numbers(decoders::timing::decode_timings(image));
@@ -431,7 +433,7 @@ fn verdict(same: bool) {
 
 // An image in bursts of sixteen, one of them sent twice.
 fn forty(image: &[u8], twice: usize) -> Pieces {
-    let mut state = Pieces::fresh();
+    let mut state = Pieces::of(Edition::Second);
     let mut at: usize = 0;
     while 16 <= image.len() - at {
         let end = at + 16;
@@ -464,9 +466,9 @@ fn certificates(image: [u8; 576], twice: usize) {
     number(twice);
     text(b" twice:");
     let answers = asked(forty(&image, twice));
-    verdict(same(answers, whole(&image)));
+    verdict(same(answers, whole(&image, Edition::Second)));
     let shifted = by_arrival(image, twice);
-    let d = beside(answers, whole(&shifted));
+    let d = beside(answers, whole(&shifted, Edition::Second));
     text(b"by arrival: differ");
     number(d.identity);
     text(b" of 17 identity fields,");
@@ -526,10 +528,10 @@ fn reads<'a>(image: &'a [u8], bent: &'a [u8]) {
 }
 
 // Whether an image that is cut in two there gives the answers.
-fn cut_at(image: &[u8], cut: usize, answers: Answers) -> bool
+fn cut_at(image: &[u8], cut: usize, edition: Edition, answers: Answers) -> bool
     requires { ⌜ cut ≤ length (now image) ⌝ }
 {
-    let first = Pieces::fresh().feed(0, &image[0..cut]);
+    let first = Pieces::of(edition).feed(0, &image[0..cut]);
     let half = first.state;
     let second = half.feed(cut, &image[cut..]);
     let state = second.state;
@@ -537,11 +539,12 @@ fn cut_at(image: &[u8], cut: usize, answers: Answers) -> bool
 }
 
 // How many of the cuts of an image into two give the whole image's answers.
-fn cuts(image: &[u8], answers: Answers) -> usize {
+fn cuts(image: &[u8], edition: Edition) -> usize {
+    let answers = whole(image, edition);
     let mut equal: usize = 0;
     let mut cut: usize = 0;
     while cut <= image.len() {
-        if cut_at(image, cut, answers) {
+        if cut_at(image, cut, edition, answers) {
             if equal < 65536 {
                 equal += 1;
             }
@@ -557,7 +560,7 @@ fn bench(image: &[u8]) {
     if image.len() < 576 {
         return;
     }
-    let a = told(Pieces::fresh().feed(0, &image[0..16]));
+    let a = told(Pieces::of(Edition::Second).feed(0, &image[0..16]));
     let b = told(a.feed(0, &image[0..16]));
     number(b.count());
     text(b"\n");
@@ -569,7 +572,7 @@ fn order(image: &[u8]) {
     if image.len() < 576 {
         return;
     }
-    let early = told(Pieces::fresh().feed(16, &image[16..32]));
+    let early = told(Pieces::of(Edition::Second).feed(16, &image[16..32]));
     let first = told(early.feed(0, &image[0..16]));
     rest(first, image);
 }
@@ -581,13 +584,13 @@ fn rest(first: Pieces, image: &[u8]) {
     let early = told(first.feed(32, &image[32..48]));
     let second = told(early.feed(16, &image[16..32]));
     let last = told(second.feed(32, &image[32..576]));
-    verdict(same(asked(last), whole(image)));
+    verdict(same(asked(last), whole(image, Edition::Second)));
 }
 
 // Up to 2,048 bytes: there an empty piece is taken, and one byte is not.
 fn longest(image: &[u8]) {
     text(b"longest");
-    let a = told(Pieces::fresh().feed(0, image));
+    let a = told(Pieces::of(Edition::Second).feed(0, image));
     if image.len() < 576 {
         return;
     }
@@ -603,7 +606,7 @@ fn ends(full: Pieces, image: &[u8]) {
     }
     let empty = told(full.feed(2048, &image[0..0]));
     let past = told(empty.feed(2048, &image[0..1]));
-    verdict(same(asked(past), whole(image)));
+    verdict(same(asked(past), whole(image, Edition::Second)));
 }
 
 // An image that is still short answers as a short image.
@@ -613,13 +616,13 @@ fn short(image: &[u8]) {
         return;
     }
     let part = &image[0..100];
-    let a = told(Pieces::fresh().feed(0, part));
-    verdict(same(asked(a), whole(part)));
+    let a = told(Pieces::of(Edition::Second).feed(0, part));
+    verdict(same(asked(a), whole(part, Edition::Second)));
 }
 
 // What the image is like: its findings, and how many bytes would hide a shift.
 fn about(image: &[u8]) {
-    let linted = rules::lint_image(image);
+    let linted = rules::lint_image(image, Edition::Second);
     let found = linted.findings;
     text(b"image: codes");
     codes(found);
@@ -628,7 +631,7 @@ fn about(image: &[u8]) {
     text(b", sixteen apart alike");
     number(alike(image, 16));
     text(b"\nblock: refused in the strict mode with");
-    let answers = whole(image);
+    let answers = whole(image, Edition::Second);
     let strict = answers.strict;
     number(strict[0] as usize);
     text(b", bytes of its part number");
@@ -648,11 +651,44 @@ fn run(image: &[u8]) {
     about(image);
     bench(image);
     text(b"cuts");
-    number(cuts(image, whole(image)));
+    number(cuts(image, Edition::Second));
     text(b"\n");
     order(image);
     longest(image);
     short(image);
+}
+
+// The findings of an image under an edition, and how many of its cuts answer as it does.
+fn under(image: &[u8], edition: Edition) {
+    let linted = rules::lint_image(image, edition);
+    let found = linted.findings;
+    codes(found);
+    text(b", cuts");
+    number(cuts(image, edition));
+    text(b"\n");
+}
+
+// A state that is made by an edition's number answers under that edition, and under edition 2 where the number is none.
+fn by_number(image: &[u8], n: u32, edition: Edition) {
+    text(b"fresh");
+    number(n as usize);
+    text(b":");
+    let fed = told(Pieces::fresh(n)).feed(0, image);
+    let state = fed.state;
+    verdict(same(asked(state), whole(image, edition)));
+}
+
+// The image with a cycle time of 250, and so a rate of 8000, which is on the second ladder alone.
+fn editions(mut image: [u8; 576]) {
+    image[20] = 250;
+    image[21] = 0;
+    text(b"edition 1: codes");
+    under(&image, Edition::First);
+    text(b"edition 2: codes");
+    under(&image, Edition::Second);
+    by_number(&image, 1, Edition::First);
+    by_number(&image, 2, Edition::Second);
+    by_number(&image, 3, Edition::Second);
 }
 
 fn main() {
@@ -662,4 +698,5 @@ fn main() {
     certificates(bytes, 64);
     let bent = by_arrival(bytes, 64);
     reads(&bytes, &bent);
+    editions(bytes);
 }

@@ -2,3 +2,4 @@ pub mod Same
 pub mod Laws
 pub mod Walked
 pub mod Walk
+pub mod Listed

@@ -1,16 +1,21 @@
-// Holds the rule of the ladder to the table of its fifteen rates, and writes what came out: for every rate from 0 to 20,000, and for as many at
-// the edges of 16, 31 and 32 bits. The rule is asked through a rated profile, which alone takes any rate. No other code has the table; that its
-// search answers as the rule's definition does, for every rate, is proved.
+// Holds the rule of the ladder to tables of its rates, nine for edition 1 and fifteen for edition 2, and writes what came out: for every rate from
+// 0 to 20,000, and for as many at the edges of 16, 31 and 32 bits. The rule is asked through a rated profile, which alone takes any rate. No other
+// code has the tables; that the search of them answers as the rule's definition does, for every edition and rate, is proved.
 ghost use mathlib.Core.Path.{_≡_};
 ghost use Prim.Native.Nat.{_+_, _≤_};
 ghost use Rattle.rules.specs.Rules.{onLadder};
+ghost use Rattle.ladder.specs.Search.{has};
 use decoders::timing::Picoseconds;
 use findings::Finding;
 use findings::Findings;
 use findings::Severity;
 use printing::number;
 use printing::text;
+use rules::Edition;
 use rules::RatedTimings;
+
+// The data rates in MT/s of the first JESD79-5.
+const FIRST_DDR5_RATES: [u32; 9] = [3200, 3600, 4000, 4400, 4800, 5200, 5600, 6000, 6400];
 
 // The JEDEC-standard DDR5 data rates in MT/s.
 const STANDARD_DDR5_RATES: [u32; 15] = [
@@ -41,18 +46,34 @@ struct Counts {
     differ: u32,
 }
 
-// Whether the table has the rate.
-fn is_listed(rate: u32) -> bool
-    ensures { λ r. ⌜ r ≡ onLadder rate ⌝ }
+// Whether a table has the rate.
+fn is_in(rate: u32, table: &[u32]) -> bool
+    ensures { λ r. ⌜ r ≡ has (now (table .entry)) rate ⌝ }
 {
     let mut i: usize = 0;
-    while i < 15 {
-        if STANDARD_DDR5_RATES[i] == rate {
+    while i < table.len() {
+        if table[i] == rate {
             return true;
         }
         i += 1;
     }
     false
+}
+
+// Whether the edition's table has the rate.
+fn is_listed(rate: u32, edition: Edition) -> bool
+    ensures { λ r. ⌜ r ≡ onLadder edition rate ⌝ }
+{
+    match edition {
+        Edition::First => {
+            let table = FIRST_DDR5_RATES;
+            is_in(rate, &table)
+        }
+        Edition::Second => {
+            let table = STANDARD_DDR5_RATES;
+            is_in(rate, &table)
+        }
+    }
 }
 
 // A profile that keeps every rule but, it may be, that of its rate.
@@ -101,7 +122,7 @@ fn counted(n: u32, so: bool) -> u32
 }
 
 // The rate `first` and those behind it.
-fn compared(first: u32) -> Counts
+fn compared(first: u32, edition: Edition) -> Counts
     requires { ⌜ first ≤ 4294947295 ⌝ }
 {
     let mut listed: u32 = 0;
@@ -110,8 +131,8 @@ fn compared(first: u32) -> Counts
     let mut i: u32 = 0;
     while i <= MORE {
         let rate = first + i;
-        let standard = is_listed(rate);
-        let said = rules::rated_findings(profile(rate));
+        let standard = is_listed(rate, edition);
+        let said = rules::rated_findings(profile(rate), edition);
         listed = counted(listed, standard);
         found = counted(found, 0 < said.count);
         differ = counted(differ, !agrees(rate, standard, said));
@@ -124,11 +145,11 @@ fn compared(first: u32) -> Counts
     }
 }
 
-fn told(first: u32)
+fn told(first: u32, edition: Edition)
     requires { ⌜ first ≤ 4294947295 ⌝ }
 {
-    let counts = compared(first);
-    text(b"rates");
+    let counts = compared(first, edition);
+    text(b" rates");
     number(first as usize);
     text(b" to");
     number((first + MORE) as usize);
@@ -141,9 +162,16 @@ fn told(first: u32)
     text(b"\n");
 }
 
+fn run(edition: Edition) {
+    told(0, edition);
+    told(55536, edition);
+    told(2147473648, edition);
+    told(4294947295, edition);
+}
+
 fn main() {
-    told(0);
-    told(55536);
-    told(2147473648);
-    told(4294947295);
+    text(b"edition 1\n");
+    run(Edition::First);
+    text(b"edition 2\n");
+    run(Edition::Second);
 }

@@ -8,15 +8,16 @@ use Rattle.reading.specs.Said.{Said}
 use Rattle.reading.specs.Lent.{listed}
 use Rattle.findings.proofs.Walked.{to-field}
 use Rattle.rules.specs.Lint.{Listing, lintAnswerSaid, lintAnswerOf, findingsOf}
+use Rattle.rules.specs.declared.Edition.{Edition}
 use Rattle.rules.proofs.LintAnswer as LA
 use Rattle.rules.proofs.LintAnswer.Laws as LA′
-use Rattle.rules.proofs.Listed.{of-struct, of-enum}
+use Rattle.findings.proofs.Listed.{of-struct, of-enum}
 use Rattle.lists.proofs.AfterLint as AL
 use Rattle.lists.proofs.AfterLint.Laws as AL′
 use Rattle.lists.proofs.Lending.{Lender}
 
-abbrev pub linter : {Y : Type 0} → (Y → List ℕ) → Name → Lender Y
-linter image callee = record {
+abbrev pub linter : {Y : Type 0} → (Y → Edition) → (Y → List ℕ) → Name → Lender Y
+linter edition image callee = record {
   answer = of-enum LA.the-type LA′.the-laws LA′.the-plain tt;
   after = of-struct AL.the-type AL′.the-laws AL′.the-plain;
   made = λ xs r. record { list = xs; answer = r };
@@ -28,6 +29,6 @@ linter image callee = record {
   callee = callee;
   Says = Said Listing;
   said = lintAnswerSaid;
-  answered = λ y. lintAnswerOf (image y);
-  leaves = λ y. listed 15 (findingsOf (image y));
+  answered = λ y. lintAnswerOf (edition y) (image y);
+  leaves = λ y. listed 15 (findingsOf (edition y) (image y));
 }

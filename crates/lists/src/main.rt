@@ -1,5 +1,6 @@
 // Calls what takes a lent list of records, which no other program does: with lists that are too short, exact and longer, and writes what
-// was answered, what stands in the places written, and how many of the others stayed as they were.
+// was answered, what stands in the places written, and how many of the others stayed as they were. Last, it asks for editions by number.
+// All is under edition 2 but where a line says edition 1.
 //
 // A list is the first `len` of seventeen places, which all hold the finding `mark` before the call. The five functions that lend one are
 // straight lines, proved by hand: each hands the array and the answer back by value, so that the rest of the program is on values alone.
@@ -16,6 +17,7 @@ use decoders::timing::Picoseconds;
 use findings::Finding;
 use findings::Findings;
 use findings::Severity;
+use pieces::FeedAnswer;
 use pieces::Pieces;
 use printing::number;
 use printing::refused;
@@ -23,6 +25,8 @@ use printing::text;
 use printing::yes;
 use report::ReadAnswer;
 use report::WriteAnswer;
+use rules::Edition;
+use rules::EditionAnswer;
 use rules::LintAnswer;
 use rules::RatedAnswer;
 use rules::RatedTimings;
@@ -43,27 +47,32 @@ struct AfterRated {
     answer: RatedAnswer,
 }
 
-fn lint_into(image: &[u8], mut list: [Finding; 17], len: usize) -> AfterLint
+fn lint_into(image: &[u8], edition: Edition, mut list: [Finding; 17], len: usize) -> AfterLint
     requires { ⌜ len ≤ 17 ⌝ }
-    ensures { λ r. ⌜ (lintAnswerSaid (r .answer) ≡ lintAnswerOf (now (image .entry)) (take «len» list)) × (r .list ≡ listed 15 (findingsOf (now (image .entry))) (take «len» list) ++ drop «len» list) ⌝ }
+    ensures { λ r. ⌜ (lintAnswerSaid (r .answer) ≡ lintAnswerOf edition (now (image .entry)) (take «len» list)) × (r .list ≡ listed 15 (findingsOf edition (now (image .entry))) (take «len» list) ++ drop «len» list) ⌝ }
 {
-    let answer = rules::lint(image, &mut list[..len]);
+    let answer = rules::lint(image, edition, &mut list[..len]);
     AfterLint { list, answer }
 }
 
 fn pieces_into(state: Pieces, mut list: [Finding; 17], len: usize) -> AfterLint
     requires { ⌜ len ≤ 17 ⌝ }
-    ensures { λ r. ⌜ (lintAnswerSaid (r .answer) ≡ lintAnswerOf (keptOf state) (take «len» list)) × (r .list ≡ listed 15 (findingsOf (keptOf state)) (take «len» list) ++ drop «len» list) ⌝ }
+    ensures { λ r. ⌜ (lintAnswerSaid (r .answer) ≡ lintAnswerOf (state .edition) (keptOf state) (take «len» list)) × (r .list ≡ listed 15 (findingsOf (state .edition) (keptOf state)) (take «len» list) ++ drop «len» list) ⌝ }
 {
     let answer = state.lint(&mut list[..len]);
     AfterLint { list, answer }
 }
 
-fn rated_into(profile: RatedTimings, mut list: [Finding; 17], len: usize) -> AfterRated
+fn rated_into(
+    profile: RatedTimings,
+    edition: Edition,
+    mut list: [Finding; 17],
+    len: usize,
+) -> AfterRated
     requires { ⌜ len ≤ 17 ⌝ }
-    ensures { λ r. ⌜ (ratedSaid (r .answer) ≡ ratedOf profile (take «len» list)) × (r .list ≡ listed 5 (ratedFindings profile) (take «len» list) ++ drop «len» list) ⌝ }
+    ensures { λ r. ⌜ (ratedSaid (r .answer) ≡ ratedOf edition profile (take «len» list)) × (r .list ≡ listed 5 (ratedFindings edition profile) (take «len» list) ++ drop «len» list) ⌝ }
 {
-    let answer = rules::check_rated_profile(profile, &mut list[..len]);
+    let answer = rules::check_rated_profile(profile, edition, &mut list[..len]);
     AfterRated { list, answer }
 }
 
@@ -129,23 +138,36 @@ fn holds(list: [Finding; 17], found: Findings) -> bool {
     true
 }
 
-// A line for each of the first places: code, severity (0 error, 1 warning, 2 info), sub, numbers.
+// A finding's line: code, severity (0 error, 1 warning, 2 info), sub, numbers.
+fn show_one(f: Finding) {
+    let severity = f.severity;
+    text(b" ");
+    number(f.code as usize);
+    number(severity.number() as usize);
+    number(f.sub as usize);
+    number(f.first as usize);
+    number(f.second as usize);
+    number(f.third as usize);
+    text(b"\n");
+}
+
+// A line for each of the first places.
 fn show(list: [Finding; 17], count: usize) {
     let mut i: usize = 0;
     while i < 17 {
         if i < count {
-            let f = list[i];
-            let severity = f.severity;
-            text(b" ");
-            number(f.code as usize);
-            number(severity.number() as usize);
-            number(f.sub as usize);
-            number(f.first as usize);
-            number(f.second as usize);
-            number(f.third as usize);
-            text(b"\n");
+            show_one(list[i]);
         }
         i += 1;
+    }
+}
+
+// A line for the last of the first places.
+fn show_last(list: [Finding; 17], count: usize) {
+    if 0 < count {
+        if count <= 17 {
+            show_one(list[count - 1]);
+        }
     }
 }
 
@@ -197,18 +219,29 @@ fn told_lint(after: AfterLint, found: Findings) {
     }
 }
 
-fn lint_case(label: &[u8], image: &[u8], len: usize)
+fn lint_case(label: &[u8], image: &[u8], edition: Edition, len: usize)
     requires { ⌜ len ≤ 17 ⌝ }
 {
     places(label, len);
-    let whole = rules::lint_image(image);
+    let whole = rules::lint_image(image, edition);
     let found = whole.findings;
-    told_lint(lint_into(image, marked(), len), found);
+    told_lint(lint_into(image, edition, marked(), len), found);
+}
+
+// The last finding of an image.
+fn lint_last(image: &[u8], edition: Edition) {
+    let after = lint_into(image, edition, marked(), 15);
+    let list = after.list;
+    let answer = after.answer;
+    match answer {
+        LintAnswer::Listed(records) => show_last(list, records.count),
+        LintAnswer::Refused(_) => {}
+    }
 }
 
 // A state that holds the image, fed in two pieces.
-fn fed(image: [u8; 512]) -> Pieces {
-    let first = Pieces::fresh().feed(0, &image[0..200]);
+fn fed(image: [u8; 512], edition: Edition) -> Pieces {
+    let first = Pieces::of(edition).feed(0, &image[0..200]);
     let half = first.state;
     let second = half.feed(200, &image[200..512]);
     second.state
@@ -223,18 +256,18 @@ fn pieces_case(label: &[u8], state: Pieces, len: usize)
     told_lint(pieces_into(state, marked(), len), found);
 }
 
-fn rated_case(profile: RatedTimings, len: usize)
+fn rated_case(label: &[u8], profile: RatedTimings, edition: Edition, len: usize)
     requires { ⌜ len ≤ 17 ⌝ }
 {
-    places(b"check_rated_profile,", len);
-    let after = rated_into(profile, marked(), len);
+    places(label, len);
+    let after = rated_into(profile, edition, marked(), len);
     let list = after.list;
     let answer = after.answer;
     match answer {
         RatedAnswer::Listed(count) => {
             text(b" count");
             number(count);
-            rest(list, rules::rated_findings(profile));
+            rest(list, rules::rated_findings(profile, edition));
         }
         RatedAnswer::Refused(why) => {
             refused(why);
@@ -358,46 +391,90 @@ fn sample() -> [u8; 512] {
     image
 }
 
-// A rated profile that breaks its five rules.
-fn profile() -> RatedTimings {
+// The same at 8000 MT/s (tCK 250), a rate that edition 2 has and edition 1 has not.
+fn fast() -> [u8; 512] {
+    let mut image = sample();
+    image[20] = 250;
+    image[21] = 0;
+    image
+}
+
+// A rated profile that breaks four of its five rules, and the fifth where the edition does not have the rate.
+fn profile(data_rate_mt_s: u32) -> RatedTimings {
     RatedTimings {
         cycle_time: Picoseconds(400),
         taa: Picoseconds(401),
         trcd: Picoseconds(403),
         trp: Picoseconds(401),
         tras: Picoseconds(402),
-        data_rate_mt_s: 5000,
+        data_rate_mt_s,
     }
 }
 
 fn linting(image: [u8; 512]) {
-    lint_case(b"lint,", &image, 0);
-    lint_case(b"lint,", &image, 14);
-    lint_case(b"lint,", &image, 15);
-    lint_case(b"lint,", &image, 17);
-    lint_case(b"lint of 236 bytes,", &image[0..236], 15);
-    lint_case(b"lint of 16 bytes,", &image[0..16], 17);
-    lint_case(b"lint of no bytes,", &image[0..0], 14);
-    lint_case(b"lint of no bytes,", &image[0..0], 15);
+    lint_case(b"lint,", &image, Edition::Second, 0);
+    lint_case(b"lint,", &image, Edition::Second, 14);
+    lint_case(b"lint,", &image, Edition::Second, 15);
+    lint_case(b"lint,", &image, Edition::Second, 17);
+    lint_case(b"lint of 236 bytes,", &image[0..236], Edition::Second, 15);
+    lint_case(b"lint of 16 bytes,", &image[0..16], Edition::Second, 17);
+    lint_case(b"lint of no bytes,", &image[0..0], Edition::Second, 14);
+    lint_case(b"lint of no bytes,", &image[0..0], Edition::Second, 15);
+}
+
+// Edition 1 has one finding more, the rate's, behind the others.
+fn linting_fast(image: [u8; 512]) {
+    let first = b"lint of 8000 MT/s under edition 1,";
+    let second = b"lint of 8000 MT/s under edition 2,";
+    lint_case(first, &image, Edition::First, 14);
+    lint_case(first, &image, Edition::First, 15);
+    lint_last(&image, Edition::First);
+    lint_case(second, &image, Edition::Second, 14);
+    lint_case(second, &image, Edition::Second, 15);
+    lint_last(&image, Edition::Second);
 }
 
 fn feeding(image: [u8; 512]) {
-    pieces_case(b"Pieces::lint,", fed(image), 0);
-    pieces_case(b"Pieces::lint,", fed(image), 14);
-    pieces_case(b"Pieces::lint,", fed(image), 15);
-    pieces_case(b"Pieces::lint,", fed(image), 17);
-    pieces_case(b"Pieces::lint of a fresh state,", Pieces::fresh(), 14);
-    pieces_case(b"Pieces::lint of a fresh state,", Pieces::fresh(), 15);
+    pieces_case(b"Pieces::lint,", fed(image, Edition::Second), 0);
+    pieces_case(b"Pieces::lint,", fed(image, Edition::Second), 14);
+    pieces_case(b"Pieces::lint,", fed(image, Edition::Second), 15);
+    pieces_case(b"Pieces::lint,", fed(image, Edition::Second), 17);
+    pieces_case(
+        b"Pieces::lint of a fresh state,",
+        Pieces::of(Edition::Second),
+        14,
+    );
+    pieces_case(
+        b"Pieces::lint of a fresh state,",
+        Pieces::of(Edition::Second),
+        15,
+    );
+}
+
+// A state of edition 1 is held to the linter's answer by value, not to its own.
+fn feeding_fast(image: [u8; 512]) {
+    places(b"Pieces::lint of 8000 MT/s under edition 1,", 15);
+    let whole = rules::lint_image(&image, Edition::First);
+    let found = whole.findings;
+    told_lint(pieces_into(fed(image, Edition::First), marked(), 15), found);
 }
 
 fn rating() {
-    rated_case(profile(), 0);
-    rated_case(profile(), 4);
-    rated_case(profile(), 5);
-    rated_case(profile(), 8);
-    let after = rated_into(profile(), marked(), 5);
+    let label = b"check_rated_profile,";
+    rated_case(label, profile(5000), Edition::Second, 0);
+    rated_case(label, profile(5000), Edition::Second, 4);
+    rated_case(label, profile(5000), Edition::Second, 5);
+    rated_case(label, profile(5000), Edition::Second, 8);
+    let after = rated_into(profile(5000), Edition::Second, marked(), 5);
     let list = after.list;
     show(list, 5);
+}
+
+fn rating_fast() {
+    let first = b"check_rated_profile of 8000 MT/s under edition 1,";
+    let second = b"check_rated_profile of 8000 MT/s under edition 2,";
+    rated_case(first, profile(8000), Edition::First, 5);
+    rated_case(second, profile(8000), Edition::Second, 5);
 }
 
 fn write_few(list: [Finding; 17]) {
@@ -452,17 +529,73 @@ fn read_two(list: [Finding; 17]) {
     read_case(b"read version 2,", &two, 17);
 }
 
+fn told_edition(edition: Edition) {
+    text(b" edition");
+    match edition {
+        Edition::First => number(1),
+        Edition::Second => number(2),
+    }
+}
+
+fn edition_case(n: u32) {
+    text(b"edition_of");
+    number(n as usize);
+    text(b":");
+    match rules::edition_of(n) {
+        EditionAnswer::Chosen(edition) => told_edition(edition),
+        EditionAnswer::Refused(why) => refused(why),
+    }
+    text(b"\n");
+}
+
+// A refused number gives a state too, so its edition is told with either answer.
+fn fresh_case(n: u32) {
+    text(b"Pieces::fresh");
+    number(n as usize);
+    text(b":");
+    let made = Pieces::fresh(n);
+    let state = made.state;
+    let answer = made.answer;
+    match answer {
+        FeedAnswer::Taken(count) => {
+            text(b" taken");
+            number(count);
+        }
+        FeedAnswer::Refused(why) => refused(why),
+    }
+    text(b",");
+    let edition = state.edition;
+    told_edition(edition);
+    text(b"\n");
+}
+
+fn editions() {
+    edition_case(0);
+    edition_case(1);
+    edition_case(2);
+    edition_case(3);
+    edition_case(4294967295);
+    fresh_case(1);
+    fresh_case(2);
+    fresh_case(3);
+}
+
 fn main() {
     let image = sample();
+    let fast = fast();
     linting(image);
-    let after = lint_into(&image, marked(), 15);
+    let after = lint_into(&image, Edition::Second, marked(), 15);
     let list = after.list;
     show(list, 15);
+    linting_fast(fast);
     feeding(image);
+    feeding_fast(fast);
     rating();
+    rating_fast();
     write_few(list);
     write_most(list);
     write_refused(list);
     read_most(list);
     read_two(list);
+    editions();
 }

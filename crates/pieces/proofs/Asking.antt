@@ -23,13 +23,14 @@ use Rattle.manufacturing.proofs.Reach.{manufacturing-reach, part-reach, part-ke
 use Rattle.crc.specs.Base.{crcRanges, baseCrcOf}
 use Rattle.crc.proofs.Reach.{crc-reach}
 use Rattle.findings.specs.Hold.{holding}
+use Rattle.rules.specs.declared.Edition.{Edition}
 use Rattle.rules.specs.Lint.{findingsOf, lintOf}
 use Rattle.rules.proofs.Reach.{lint-reach}
 use Rattle.rules.proofs.Never.{at-most-fifteen}
 use Rattle.pieces.specs.Fed.{keptBytes, keptOf, padded, Holds}
 use Rattle.pieces.specs.Run.{Call, run, image}
 use Rattle.pieces.specs.declared.Pieces.{Pieces}
-use Rattle.pieces.proofs.Running.{run-holds, run-same}
+use Rattle.pieces.proofs.Running.{run-holds, run-edition, run-same}
 
 -- as many of the padded bytes as there are: the first n
 take-padded : (n : ℕ) (b : List ℕ) → take (length b) (padded n b) ≡ take n b
@@ -47,8 +48,8 @@ pub asked : {X : Type 0} {d : View → X} → Within keptBytes d → {s : Pieces
 asked {d = d} w {b = b} h = ap (λ (l : List ℕ). d (view l)) (kept-first h) ∙ within d keptBytes w b
 
 -- the same after any run of calls
-pub asked-run : {X : Type 0} {d : View → X} → Within keptBytes d → (cs : List Call) → d (view (keptOf (run cs))) ≡ d (view (image cs))
-asked-run w cs = asked w (run-holds cs)
+pub asked-run : {X : Type 0} {d : View → X} → Within keptBytes d → (e : Edition) (cs : List Call) → d (view (keptOf (run e cs))) ≡ d (view (image cs))
+asked-run w e cs = asked w (run-holds e cs)
 
 -- the first n of the first m bytes are the first n
 module _ (n m : ℕ) (h : n ≤ m) where
@@ -66,44 +67,48 @@ module _ (n m : ℕ) (h : n ≤ m) where
   within-more {d = d} w v = w v ∙ sym (w (clip m v) ∙ ap d (clip-clip v))
 
 -- every question of a state, after any run of calls, is answered for the bytes that the run brought
-module _ (cs : List Call) where
-  pub run-identity : identityOf (keptOf (run cs)) ≡ identityOf (image cs)
+module _ (e : Edition) (cs : List Call) where
+  pub run-identity : identityOf (keptOf (run e cs)) ≡ identityOf (image cs)
   unfolding identityOf
-  run-identity = asked-run (within-more (reachOf identityRanges) keptBytes (omega arith) identity-reach) cs
+  run-identity = asked-run (within-more (reachOf identityRanges) keptBytes (omega arith) identity-reach) e cs
 
-  pub run-timings : timingsOf (keptOf (run cs)) ≡ timingsOf (image cs)
+  pub run-timings : timingsOf (keptOf (run e cs)) ≡ timingsOf (image cs)
   unfolding timingsOf
-  run-timings = asked-run (within-more (reachOf timingRanges) keptBytes (omega arith) timings-reach) cs
+  run-timings = asked-run (within-more (reachOf timingRanges) keptBytes (omega arith) timings-reach) e cs
 
-  pub run-manufacturing : (mode : DateMode) → manufacturingOf mode (keptOf (run cs)) ≡ manufacturingOf mode (image cs)
+  pub run-manufacturing : (mode : DateMode) → manufacturingOf mode (keptOf (run e cs)) ≡ manufacturingOf mode (image cs)
   unfolding manufacturingOf
-  run-manufacturing mode = asked-run (within-more (reachOf manufacturingRanges) keptBytes (omega arith) (manufacturing-reach mode)) cs
+  run-manufacturing mode = asked-run (within-more (reachOf manufacturingRanges) keptBytes (omega arith) (manufacturing-reach mode)) e cs
 
-  pub run-part : partOf (keptOf (run cs)) ≡ partOf (image cs)
+  pub run-part : partOf (keptOf (run e cs)) ≡ partOf (image cs)
   unfolding partOf
-  run-part = asked-run (within-more (reachOf manufacturingRanges) keptBytes (omega arith) part-reach) cs
+  run-part = asked-run (within-more (reachOf manufacturingRanges) keptBytes (omega arith) part-reach) e cs
 
-  pub run-part-kept : partKeptOf (keptOf (run cs)) ≡ partKeptOf (image cs)
+  pub run-part-kept : partKeptOf (keptOf (run e cs)) ≡ partKeptOf (image cs)
   unfolding partKeptOf
-  run-part-kept = asked-run (within-more (reachOf manufacturingRanges) keptBytes (omega arith) part-kept-reach) cs
+  run-part-kept = asked-run (within-more (reachOf manufacturingRanges) keptBytes (omega arith) part-kept-reach) e cs
 
-  pub run-crc : baseCrcOf (keptOf (run cs)) ≡ baseCrcOf (image cs)
+  pub run-crc : baseCrcOf (keptOf (run e cs)) ≡ baseCrcOf (image cs)
   unfolding baseCrcOf
-  run-crc = asked-run (within-more (reachOf crcRanges) keptBytes (omega arith) crc-reach) cs
+  run-crc = asked-run (within-more (reachOf crcRanges) keptBytes (omega arith) crc-reach) e cs
 
-  pub run-findings : findingsOf (keptOf (run cs)) ≡ findingsOf (image cs)
-  run-findings = asked-run (within-more 510 keptBytes (omega arith) lint-reach) cs
+  pub run-findings : findingsOf e (keptOf (run e cs)) ≡ findingsOf e (image cs)
+  run-findings = asked-run (within-more 510 keptBytes (omega arith) (lint-reach e)) e cs
 
-  pub run-lint : lintOf (keptOf (run cs)) ≡ lintOf (image cs)
+  pub run-lint : lintOf e (keptOf (run e cs)) ≡ lintOf e (image cs)
   run-lint i = record { identity = run-identity i; timings = run-timings i; findings = holding (run-findings i) }
 
+  -- as the state asks it, under the edition that it has
+  pub run-lint-kept : lintOf (run e cs .edition) (keptOf (run e cs)) ≡ lintOf e (image cs)
+  run-lint-kept = ap (λ (d : Edition). lintOf d (keptOf (run e cs))) (run-edition e cs) ∙ run-lint
+
   -- and there are never more than fifteen
-  pub run-few : length (findingsOf (keptOf (run cs))) ≤ 15
-  run-few = at-most-fifteen (keptOf (run cs))
+  pub run-few : length (findingsOf e (keptOf (run e cs))) ≤ 15
+  run-few = at-most-fifteen e (keptOf (run e cs))
 
-  pub run-count : run cs .taken ≡ length (image cs)
-  run-count = run-holds cs .count
+  pub run-count : run e cs .taken ≡ length (image cs)
+  run-count = run-holds e cs .count
 
--- two runs whose taken pieces join to the same bytes give the same answer to whatever is asked of their states
-pub same-answer : {X : Type 0} (ask : Pieces → X) (cs ds : List Call) → image cs ≡ image ds → ask (run cs) ≡ ask (run ds)
-same-answer ask cs ds e = ap ask (run-same cs ds e)
+-- two runs of one edition whose taken pieces join to the same bytes give the same answer to whatever is asked of their states
+pub same-answer : {X : Type 0} (ask : Pieces → X) (e : Edition) (cs ds : List Call) → image cs ≡ image ds → ask (run e cs) ≡ ask (run e ds)
+same-answer ask e cs ds h = ap ask (run-same e cs ds h)

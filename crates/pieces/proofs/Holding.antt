@@ -7,8 +7,9 @@ use mathlib.Core.List.{List, [], _∷_, _++_}
 use native.Mathlib.Omega.{arith}
 use lib.ListN.{length, replicate, length-append}
 use borrow.Author.Tests.{eq-eqb, le-leb}
-use Rattle.reading.specs.Said.{gives}
-use Rattle.pieces.specs.Fed.{overlaid, fedBy, freshPieces, keptBytes, longest, padded, Holds}
+use Rattle.reading.specs.Said.{Said, gives, refuses}
+use Rattle.rules.specs.declared.Edition.{Edition}
+use Rattle.pieces.specs.Fed.{overlaid, stateAfter, fedBy, freshPieces, keptBytes, longest, padded, Holds}
 use Rattle.pieces.specs.Run.{Call, takes, answerAt}
 use Rattle.pieces.specs.declared.Pieces.{Pieces}
 use Rattle.pieces.proofs.Laws.{over-none}
@@ -27,8 +28,8 @@ over-padded (suc n) [] [] = refl
 over-padded (suc n) [] (y ∷ p) = ap (λ (l : List ℕ). y ∷ l) (over-padded n [] p)
 over-padded (suc n) (x ∷ b) p = ap (λ (l : List ℕ). x ∷ l) (over-padded n b p)
 
-pub fresh-holds : Holds freshPieces []
-fresh-holds = record { count = refl; fits = omega arith; first = sym (padded-none keptBytes) }
+pub fresh-holds : (e : Edition) → Holds (freshPieces e) []
+fresh-holds e = record { count = refl; fits = omega arith; first = sym (padded-none keptBytes) }
 
 -- a call that is not taken leaves the state as it was
 pub refused : (s : Pieces) (c : Call) → takes (s .taken) c ≡ false → fedBy s (c .offset) (c .piece) .state ≡ s
@@ -56,6 +57,14 @@ taken {s} {b} h c e =
 pub answered : {s : Pieces} {b : List ℕ} → Holds s b → (c : Call) → fedBy s (c .offset) (c .piece) .answer ≡ answerAt (length b) c
 answered h c = ap (λ (n : ℕ). answerAt n c) (h .count)
 
--- what is held says what the state is
-pub same-state : {s t : Pieces} {b : List ℕ} → Holds s b → Holds t b → s ≡ t
-same-state h k i = record { kept = (h .first ∙ sym (k .first)) i; taken = (h .count ∙ sym (k .count)) i }
+-- no answer changes the edition
+after-edition : (s : Pieces) (p : List ℕ) (a : Said ℕ) → stateAfter s p a .edition ≡ s .edition
+after-edition s p (gives n) = refl
+after-edition s p (refuses t) = refl
+
+pub same-edition : (s : Pieces) (c : Call) → fedBy s (c .offset) (c .piece) .state .edition ≡ s .edition
+same-edition s c = after-edition s (c .piece) (answerAt (s .taken) c)
+
+-- what is held, with the edition, says what the state is
+pub same-state : {s t : Pieces} {b : List ℕ} → Holds s b → Holds t b → s .edition ≡ t .edition → s ≡ t
+same-state h k e i = record { kept = (h .first ∙ sym (k .first)) i; taken = (h .count ∙ sym (k .count)) i; edition = e i }

@@ -1,17 +1,18 @@
 -- A run of calls from a fresh state leads to a state that holds the join of the pieces taken. Which those are goes by the calls alone, so
 -- how the bytes were cut does not matter. Assumes nothing.
 use Prim.Native.Nat.{ℕ, _+_, _≤_}
-use mathlib.Core.Path.{_≡_, refl, ap}
+use mathlib.Core.Path.{_≡_, refl, sym, ap, _∙_}
 use mathlib.Core.List.{List, [], _∷_, _++_, append-nil, append-assoc}
 use native.Mathlib.Omega.{arith}
 use lib.ListN.{length, length-append}
 use borrow.Author.Tests.{eq-eqb, le-leb}
 use Rattle.reading.specs.Said.{Said}
 use Rattle.reading.proofs.Picked.{by-test}
+use Rattle.rules.specs.declared.Edition.{Edition}
 use Rattle.pieces.specs.Fed.{freshPieces, longest, Holds}
 use Rattle.pieces.specs.Run.{Call, takes, takenFrom, join, image, runFrom, run, answerAt, answersFrom, saidFrom, inOrder}
 use Rattle.pieces.specs.declared.Pieces.{Pieces}
-use Rattle.pieces.proofs.Holding.{fresh-holds, taken, refused, answered, same-state}
+use Rattle.pieces.proofs.Holding.{fresh-holds, taken, refused, answered, same-edition, same-state}
 
 -- what a run does with a state that holds b: the pieces taken are held too, and each call is answered by what was held before it
 record Ran (s : Pieces) (b : List ℕ) (cs : List Call) : Type 0 where
@@ -37,16 +38,25 @@ ran (c ∷ cs) {s} {b} h = by-test (takes (length b) c)
     })
 
 -- the run theorem, for any list of calls
-pub run-holds : (cs : List Call) → Holds (run cs) (image cs)
-run-holds cs = ran cs fresh-holds .holds
+pub run-holds : (e : Edition) (cs : List Call) → Holds (run e cs) (image cs)
+run-holds e cs = ran cs (fresh-holds e) .holds
 
 -- the answers go by the calls alone
-pub run-says : (cs : List Call) → saidFrom freshPieces cs ≡ answersFrom 0 cs
-run-says cs = ran cs fresh-holds .says
+pub run-says : (e : Edition) (cs : List Call) → saidFrom (freshPieces e) cs ≡ answersFrom 0 cs
+run-says e cs = ran cs (fresh-holds e) .says
 
--- two runs that bring the same bytes lead to the same state, however they were cut
-pub run-same : (cs ds : List Call) → image cs ≡ image ds → run cs ≡ run ds
-run-same cs ds e = same-state (run-holds cs) (rw e (run-holds ds))
+-- and the edition stays
+from-edition : (cs : List Call) (s : Pieces) → runFrom s cs .edition ≡ s .edition
+unfolding runFrom
+from-edition [] s = refl
+from-edition (c ∷ cs) s = from-edition cs _ ∙ same-edition s c
+
+pub run-edition : (e : Edition) (cs : List Call) → run e cs .edition ≡ e
+run-edition e cs = from-edition cs (freshPieces e)
+
+-- two runs of one edition that bring the same bytes lead to the same state, however they were cut
+pub run-same : (e : Edition) (cs ds : List Call) → image cs ≡ image ds → run e cs ≡ run e ds
+run-same e cs ds h = same-state (run-holds e cs) (rw h (run-holds e ds)) (run-edition e cs ∙ sym (run-edition e ds))
 
 -- pieces sent in order are all taken
 pub in-order : (n : ℕ) (ps : List (List ℕ)) → n + length (join ps) ≤ longest → takenFrom n (inOrder n ps) ≡ ps

@@ -5,6 +5,7 @@ use mathlib.Core.List.{List, [], _∷_, _++_}
 use lib.ListN.{length}
 use Rattle.reading.specs.Pick.{pick}
 use Rattle.reading.specs.Said.{Said, onward}
+use Rattle.rules.specs.declared.Edition.{Edition}
 use Rattle.pieces.specs.Fed.{freshPieces, acceptedAt, fedBy}
 use Rattle.pieces.specs.declared.Pieces.{Pieces}
 
@@ -38,8 +39,9 @@ unfoldable pub runFrom : Pieces → List Call → Pieces
 runFrom s [] = s
 runFrom s (c ∷ cs) = runFrom (fedBy s (c .offset) (c .piece) .state) cs
 
-abbrev pub run : List Call → Pieces
-run cs = runFrom freshPieces cs
+-- from a fresh one of an edition
+abbrev pub run : Edition → List Call → Pieces
+run e cs = runFrom (freshPieces e) cs
 
 -- the answers to a run of calls after n bytes
 unfoldable pub answersFrom : ℕ → List Call → List (Said ℕ)

@@ -11,7 +11,7 @@ ghost use Rattle.manufacturing.specs.Block.{manufacturingSaid, manufacturingOf}
 ghost use Rattle.manufacturing.specs.Part.{partKeptOf};
 ghost use Rattle.crc.specs.Base.{crcSaid, baseCrcOf};
 ghost use Rattle.rules.specs.Lint.{lintSaid, lintOf, lintAnswerSaid, lintAnswerOf, findingsOf};
-ghost use Rattle.pieces.specs.Fed.{freshPieces, overlaid, feedSaid, fedSaid, acceptedAt, fedBy, keptOf};
+ghost use Rattle.pieces.specs.Fed.{freshPieces, freshBy, overlaid, feedSaid, fedSaid, acceptedAt, fedBy, keptOf};
 ghost use Rattle.pieces.specs.Laying.{withEight};
 use crc::CrcAnswer;
 use decoders::identity::IdentityAnswer;
@@ -21,6 +21,8 @@ use manufacturing::DateMode;
 use manufacturing::ManufacturingAnswer;
 use manufacturing::PartNumber;
 use reading::Refusal;
+use rules::Edition;
+use rules::EditionAnswer;
 use rules::LintAnswer;
 use rules::Linted;
 
@@ -30,10 +32,11 @@ pub const LONGEST: usize = 2048;
 // How many of its first bytes are kept: all that any definition looks at.
 pub const KEPT: usize = 555;
 
-// The bytes kept, 0 where none has arrived yet, and the count of bytes taken.
+// The bytes kept, 0 where none has arrived yet, the count of bytes taken, and the edition that it got when fresh.
 pub struct Pieces {
     pub kept: [u8; KEPT],
     pub taken: usize,
+    pub edition: Edition,
 }
 
 // The count of bytes taken with this piece, or why it was not taken.
@@ -50,12 +53,29 @@ pub struct Fed {
 
 impl Pieces {
     // A state that has taken nothing.
-    pub fn fresh() -> Self
-        ensures { λ r. ⌜ r ≡ freshPieces ⌝ }
+    pub fn of(edition: Edition) -> Self
+        ensures { λ r. ⌜ r ≡ freshPieces edition ⌝ }
     {
         Self {
             kept: [0u8; KEPT],
             taken: 0,
+            edition,
+        }
+    }
+
+    // The same by the edition's number. One that is none is refused, and the state is edition 2's.
+    pub fn fresh(edition: u32) -> Fed
+        ensures { λ r. ⌜ fedSaid r ≡ freshBy edition ⌝ }
+    {
+        match rules::edition_of(edition) {
+            EditionAnswer::Chosen(e) => Fed {
+                state: Self::of(e),
+                answer: FeedAnswer::Taken(0),
+            },
+            EditionAnswer::Refused(why) => Fed {
+                state: Self::of(Edition::Second),
+                answer: FeedAnswer::Refused(why),
+            },
         }
     }
 
@@ -127,15 +147,16 @@ impl Pieces {
     }
 
     pub fn lint_image(self) -> Linted
-        ensures { λ r. ⌜ lintSaid r ≡ lintOf (keptOf self) ⌝ }
+        ensures { λ r. ⌜ lintSaid r ≡ lintOf (self .edition) (keptOf self) ⌝ }
     {
         let kept = self.kept;
-        rules::lint_image(arrived(&kept, self.taken))
+        let edition = self.edition;
+        rules::lint_image(arrived(&kept, self.taken), edition)
     }
 
     // The findings go into a lent list of at least fifteen places.
     pub fn lint(self, list: &mut [Finding]) -> LintAnswer
-        ensures { λ r. ⌜ (lintAnswerSaid r ≡ lintAnswerOf (keptOf self) (now (list .entry))) × (now (list .exit) ≡ listed 15 (findingsOf (keptOf self)) (now (list .entry))) ⌝ }
+        ensures { λ r. ⌜ (lintAnswerSaid r ≡ lintAnswerOf (self .edition) (keptOf self) (now (list .entry))) × (now (list .exit) ≡ listed 15 (findingsOf (self .edition) (keptOf self)) (now (list .entry))) ⌝ }
     {
         let len = list.len();
         let linted = self.lint_image();

@@ -5,7 +5,7 @@ use lib.Dec.{eqb}
 use Rattle.reading.specs.Pick.{pick}
 use Rattle.reading.specs.Said.{Told, told, Said, gives, refuses}
 use Rattle.reading.specs.declared.Refusal.{Refusal}
-use Rattle.reading.specs.declared.Refusal.the-variants.{Truncated, NotDdr5, UnknownEnum, ListTooShort, WrongOffset, TooLong, ZeroClock, BufferTooSmall, ReportCut, ReportVersion, ReportMalformed, NotReportable, StrictDate, NeitherSound}
+use Rattle.reading.specs.declared.Refusal.the-variants.{Truncated, NotDdr5, UnknownEnum, ListTooShort, WrongOffset, TooLong, ZeroClock, BufferTooSmall, ReportCut, ReportVersion, ReportMalformed, NotReportable, StrictDate, UnknownEdition, NeitherSound}
 
 -- the refusal that a number and its values stand for
 abbrev untold : Told → Refusal
@@ -23,7 +23,8 @@ untold t =
     (pick (eqb (t .number) 11) ReportMalformed
     (pick (eqb (t .number) 12) NotReportable
     (pick (eqb (t .number) 13) StrictDate
-    NeitherSound))))))))))))
+    (pick (eqb (t .number) 14) UnknownEdition
+    NeitherSound)))))))))))))
 
 pub untold-told : (why : Refusal) → untold (told why) ≡ why
 untold-told (Truncated n) = refl
@@ -39,6 +40,7 @@ untold-told ReportVersion = refl
 untold-told ReportMalformed = refl
 untold-told NotReportable = refl
 untold-told StrictDate = refl
+untold-told UnknownEdition = refl
 untold-told NeitherSound = refl
 
 -- an answer whose cases are a value and a refusal, read back

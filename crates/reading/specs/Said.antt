@@ -3,7 +3,7 @@
 -- `reading::byte` and `rules::check_package_coherence`, promise the case itself. Assumes nothing.
 use Prim.Native.Nat.{ℕ}
 use Rattle.reading.specs.declared.Refusal.{Refusal}
-use Rattle.reading.specs.declared.Refusal.the-variants.{Truncated, NotDdr5, UnknownEnum, ListTooShort, WrongOffset, TooLong, ZeroClock, BufferTooSmall, ReportCut, ReportVersion, ReportMalformed, NotReportable, StrictDate, NeitherSound}
+use Rattle.reading.specs.declared.Refusal.the-variants.{Truncated, NotDdr5, UnknownEnum, ListTooShort, WrongOffset, TooLong, ZeroClock, BufferTooSmall, ReportCut, ReportVersion, ReportMalformed, NotReportable, StrictDate, UnknownEdition, NeitherSound}
 
 -- a refusal's number and the values that it carries, 0 where it carries fewer than two
 pub record Told : Type 0 where
@@ -14,7 +14,7 @@ pub record Told : Type 0 where
 abbrev pub no : (number first second : ℕ) → Told
 no n a b = record { number = n; first = a; second = b }
 
--- document 01, "Refusal numbers"; 1 carries what document 02, 2026-01 adds
+-- document 01, "Refusal numbers", and document 02; 1 carries what 2026-01 adds
 abbrev pub told : Refusal → Told
 told (Truncated offset) = no 1 offset 0
 told (NotDdr5 byte2) = no 2 byte2 0
@@ -29,6 +29,7 @@ told ReportVersion = no 10 0 0
 told ReportMalformed = no 11 0 0
 told NotReportable = no 12 0 0
 told StrictDate = no 13 0 0
+told UnknownEdition = no 14 0 0
 told NeitherSound = no 21 0 0
 
 -- how many values a refusal carries
@@ -46,6 +47,7 @@ carried ReportVersion = 0
 carried ReportMalformed = 0
 carried NotReportable = 0
 carried StrictDate = 0
+carried UnknownEdition = 0
 carried NeitherSound = 0
 
 pub data Said (A : Type 0) : Type 0 where

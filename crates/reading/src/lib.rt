@@ -34,6 +34,8 @@ pub enum Refusal {
     NotReportable,
     // In the strict mode, a date that is not decimal digits or whose week is not 1 to 53.
     StrictDate,
+    // The edition is neither 1 nor 2.
+    UnknownEdition,
     // Of two reads neither is long enough and has a CRC that fits.
     NeitherSound,
 }
@@ -57,6 +59,7 @@ impl Refusal {
             Refusal::ReportMalformed => 11,
             Refusal::NotReportable => 12,
             Refusal::StrictDate => 13,
+            Refusal::UnknownEdition => 14,
             Refusal::NeitherSound => 21,
         }
     }
@@ -79,6 +82,7 @@ impl Refusal {
             Refusal::ReportMalformed => 0,
             Refusal::NotReportable => 0,
             Refusal::StrictDate => 0,
+            Refusal::UnknownEdition => 0,
             Refusal::NeitherSound => 0,
         }
     }
@@ -101,6 +105,7 @@ impl Refusal {
             Refusal::ReportMalformed => 0,
             Refusal::NotReportable => 0,
             Refusal::StrictDate => 0,
+            Refusal::UnknownEdition => 0,
             Refusal::NeitherSound => 0,
         }
     }
@@ -123,6 +128,7 @@ impl Refusal {
             Refusal::ReportMalformed => 0,
             Refusal::NotReportable => 0,
             Refusal::StrictDate => 0,
+            Refusal::UnknownEdition => 0,
             Refusal::NeitherSound => 0,
         }
     }

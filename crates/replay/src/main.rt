@@ -1,5 +1,5 @@
-// Replays the Rust linter's answers: rebuilds each image of a list, asks the decoders and the rules, and compares every number and
-// every severity with those of the list. First it runs the bench lines of document 01 that are not proved and not run elsewhere.
+// Replays the Rust linter's answers: rebuilds each image of a list, asks the decoders and, under edition 2, the rules, and compares every
+// number and every severity with those of the list. First it runs the bench lines of document 01 that are not proved and not run elsewhere.
 //
 // The list comes on standard input. The file `stdin` beside src/ is what `judge/list.rs` writes when it is run as `list fixed`: the
 // answers of spdr (The-Open-Memory-Initiative-OMI/spdr at 6b0d2d55f1), with judge/vendor.rs for its one file that is not at hand.
@@ -28,6 +28,7 @@ ghost use Rattle.reading.specs.View.{view};
 ghost use Rattle.reading.specs.Said.{told};
 ghost use Rattle.decoders.specs.Identity.{identityOf};
 ghost use Rattle.decoders.specs.Timing.{timingsOf};
+ghost use Rattle.rules.specs.declared.Edition.the-variants.{Second};
 ghost use Rattle.rules.specs.Lint.{findingsOf};
 ghost use Rattle.replay.specs.Held.{le16In, le32In, packedIn, behind, held, heldAll};
 ghost use Rattle.replay.specs.Answers.{bitOf, rankOf, refusalNumbers, identityRecord, timingRecord, saidNumbers, rateNumbers};
@@ -46,6 +47,7 @@ use libc::STDIN_FILENO;
 use printing::decimal;
 use printing::text;
 use reading::Refusal;
+use rules::Edition;
 use rules::RatedTimings;
 
 // So many differences are told one by one; the others are only counted.
@@ -411,9 +413,9 @@ fn check_cas(record: &[u8], c: Cursor, image: &[u8]) -> Cursor {
 }
 
 fn check_findings(record: &[u8], c: Cursor, image: &[u8]) -> Cursor
-    ensures { λ r. ⌜ r ≡ heldAll (view (now («record» .entry))) c (listNumbers (findingsOf (now (image .entry)))) ⌝ }
+    ensures { λ r. ⌜ r ≡ heldAll (view (now («record» .entry))) c (listNumbers (findingsOf Second (now (image .entry)))) ⌝ }
 {
-    let answer = rules::lint_image(image);
+    let answer = rules::lint_image(image, Edition::Second);
     let found = answer.findings;
     expect_findings(record, c, found)
 }
@@ -423,7 +425,7 @@ fn check_rated(record: &[u8], c: Cursor, image: &[u8]) -> Cursor {
         Profile::Absent => expect(record, c, 0),
         Profile::Rated(r) => {
             let one = expect(record, c, 1);
-            expect_findings(record, one, rules::rated_findings(r))
+            expect_findings(record, one, rules::rated_findings(r, Edition::Second))
         }
     }
 }
@@ -656,7 +658,7 @@ fn timed(image: [u8; 236], at: usize, time: u16) -> [u8; 236]
 
 // The codes of an image's findings, in order.
 fn codes(image: &[u8]) {
-    let answer = rules::lint_image(image);
+    let answer = rules::lint_image(image, Edition::Second);
     let found = answer.findings;
     let items = found.items;
     let mut i: usize = 0;

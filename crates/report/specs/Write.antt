@@ -13,6 +13,7 @@ use Rattle.decoders.specs.declared.timing.TimingsAnswer.{TimingsAnswer}
 use Rattle.decoders.specs.Answers.{identitySaid, timingsSaid}
 use Rattle.decoders.specs.Identity.{identityOf}
 use Rattle.decoders.specs.Timing.{timingsOf}
+use Rattle.rules.specs.declared.Edition.{Edition}
 use Rattle.rules.specs.Table.{allIn}
 use Rattle.rules.specs.Lint.{findingsOf}
 use Rattle.report.specs.Form.{restOf, reportOf}
@@ -58,9 +59,9 @@ flagsFor identity timings = decoded identity + 2 * decoded timings
 abbrev pub flagsOf : IdentityAnswer → TimingsAnswer → ℕ
 flagsOf identity timings = flagsFor (identitySaid identity) (timingsSaid timings)
 
--- the bytes of an image's report: want of room is the only refusal
-unfoldable pub lintReportOf : List ℕ → (room : ℕ) → Said ℕ
-lintReportOf s room = fitted (length (findingsOf s)) room
+-- the bytes of an image's report under an edition: want of room is the only refusal
+unfoldable pub lintReportOf : Edition → List ℕ → (room : ℕ) → Said ℕ
+lintReportOf e s room = fitted (length (findingsOf e s)) room
 
 -- the whole answer: what each decoder says of the image, its refusal with number and values included, and the bytes written
 pub record Reported : Type 0 where
@@ -68,13 +69,13 @@ pub record Reported : Type 0 where
   pub timings : Said Timings
   pub written : Said ℕ
 
-abbrev pub reportedOf : List ℕ → (room : ℕ) → Reported
-reportedOf s room = record { identity = identityOf s; timings = timingsOf s; written = lintReportOf s room }
+abbrev pub reportedOf : Edition → List ℕ → (room : ℕ) → Reported
+reportedOf e s room = record { identity = identityOf s; timings = timingsOf s; written = lintReportOf e s room }
 
 abbrev pub lintReportSaid : LintReport → Reported
 lintReportSaid r = record { identity = identitySaid (r .identity); timings = timingsSaid (r .timings); written = writeSaid (r .written) }
 
 -- the buffer afterwards
-unfoldable pub lintReportAfter : List ℕ → List ℕ → List ℕ
-lintReportAfter s out =
-    writtenOver (lintReportOf s (length out)) (flagsFor (identityOf s) (timingsOf s)) (findingsOf s) out
+unfoldable pub lintReportAfter : Edition → List ℕ → List ℕ → List ℕ
+lintReportAfter e s out =
+    writtenOver (lintReportOf e s (length out)) (flagsFor (identityOf s) (timingsOf s)) (findingsOf e s) out

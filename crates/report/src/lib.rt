@@ -18,6 +18,7 @@ use findings::Finding;
 use findings::Findings;
 use findings::Severity;
 use reading::Refusal;
+use rules::Edition;
 use rules::LintAnswer;
 
 // The bytes of a finding.
@@ -96,13 +97,13 @@ fn write_fitting(flags: u8, found: Findings, out: &mut [u8]) -> WriteAnswer
 }
 
 // Lints an image and writes its report. What linting finds is always the form's, so want of room is the report's only refusal.
-pub fn lint_report(image: &[u8], out: &mut [u8]) -> LintReport
-    ensures answer { λ r. ⌜ lintReportSaid r ≡ reportedOf (now (image .entry)) (length (now (out .entry))) ⌝ }
-    ensures later { λ r. ⌜ now (out .exit) ≡ lintReportAfter (now (image .entry)) (now (out .entry)) ⌝ }
+pub fn lint_report(image: &[u8], edition: Edition, out: &mut [u8]) -> LintReport
+    ensures answer { λ r. ⌜ lintReportSaid r ≡ reportedOf edition (now (image .entry)) (length (now (out .entry))) ⌝ }
+    ensures later { λ r. ⌜ now (out .exit) ≡ lintReportAfter edition (now (image .entry)) (now (out .entry)) ⌝ }
 {
     let mut heads = [0u8; 45];
     let mut numbers = [0u32; 45];
-    match rules::lint_numbers(image, &mut heads, &mut numbers) {
+    match rules::lint_numbers(image, edition, &mut heads, &mut numbers) {
         LintAnswer::Listed(linted) => {
             let identity = linted.identity;
             let timings = linted.timings;

@@ -16,6 +16,7 @@ use reading::Missing;
 use reading::Refusal;
 use report::ReadAnswer;
 use report::WriteAnswer;
+use rules::Edition;
 use rules::LintAnswer;
 
 // The largest number of 64 bits.
@@ -95,10 +96,10 @@ fn image_report(image: &[u8]) {
     let mut once = [255u8; 216];
     let mut twice = [255u8; 216];
     text(b"lint_report:");
-    let reported = report::lint_report(image, &mut once);
+    let reported = report::lint_report(image, Edition::Second, &mut once);
     let written = reported.written;
     wrote(written);
-    let linted = rules::lint_image(image);
+    let linted = rules::lint_image(image, Edition::Second);
     let identity = linted.identity;
     let timings = linted.timings;
     let found = linted.findings;
@@ -121,7 +122,7 @@ fn image_short(image: &[u8]) {
     let mut out = [255u8; 158];
     let before = [255u8; 158];
     text(b"lint_report, a byte short:");
-    let reported = report::lint_report(image, &mut out);
+    let reported = report::lint_report(image, Edition::Second, &mut out);
     let written = reported.written;
     wrote(written);
     text(b", unchanged");
@@ -149,7 +150,7 @@ fn timings_told(answer: TimingsAnswer) {
 fn image_told(label: &[u8], image: &[u8]) {
     let mut out = [255u8; 216];
     text(label);
-    let reported = report::lint_report(image, &mut out);
+    let reported = report::lint_report(image, Edition::Second, &mut out);
     let identity = reported.identity;
     let timings = reported.timings;
     let written = reported.written;
@@ -412,7 +413,7 @@ fn list_of(len: usize, image: &[u8]) {
     text(b"lint into");
     number(len);
     text(b" places:");
-    match rules::lint_reply(len, rules::lint_image(image)) {
+    match rules::lint_reply(len, rules::lint_image(image, Edition::Second)) {
         LintAnswer::Listed(records) => number(records.count),
         LintAnswer::Refused(why) => refused(why),
     }

@@ -9,14 +9,27 @@ use borrow.Author.Tests.{lt-ltb, le-ltb}
 use Rattle.reading.specs.Pick.{pick}
 use Rattle.reading.specs.Said.{Told, Said, gives, refuses, refused}
 use Rattle.reading.specs.Lent.{laid}
+use Rattle.rules.specs.declared.Edition.{Edition}
+use Rattle.rules.specs.Lint.{editionOf}
 use Rattle.report.specs.Write.{lintReportOf, lintReportAfter}
 use Rattle.roostcord.specs.Word.{wordOf}
 use Rattle.roostcord.specs.Numbers.{listedIn, listAfter}
+use Rattle.roostcord.specs.Chosen.{lintIn, lintAfter}
 use Rattle.roostcord.specs.State.{stateSize, short, asked, arrivedIn}
 
 -- a decoder's answer r that says x, and the case that a match found in it
 pub found : {A E : Type 0} (say : E → Said A) {r e : E} {x : Said A} → say r ≡ x → r ≡ e → x ≡ say e
 found say p q = sym p ∙ ap say q
+
+-- linting by a number that stands for an edition is linting under that edition
+module _ (n : ℕ) {e : Edition} (c : editionOf n ≡ gives e) where
+  pub lint-chosen : (s : List ℕ) (room : ℕ) → lintIn n s room ≡ lintReportOf e s room
+  unfolding lintIn
+  lint-chosen s room = rw c
+
+  pub lint-chosen-after : (s out : List ℕ) → lintAfter n s out ≡ lintReportAfter e s out
+  unfolding lintAfter
+  lint-chosen-after s out = rw c
 
 -- a list of numbers in a lent list
 module _ (need : ℕ) (numbers : Said (List ℕ)) (out : List ℕ) where
@@ -43,8 +56,8 @@ pub record Question : Type 0 where
 abbrev pub listing : (need : ℕ) → (List ℕ → Said (List ℕ)) → List ℕ → Question
 listing need numbers out = record { answer = λ s. listedIn need (numbers s) (length out); after = λ s. listAfter need (numbers s) out }
 
-abbrev pub reporting : List ℕ → Question
-reporting out = record { answer = λ s. lintReportOf s (length out); after = λ s. lintReportAfter s out }
+abbrev pub reporting : Edition → List ℕ → Question
+reporting e out = record { answer = λ s. lintReportOf e s (length out); after = λ s. lintReportAfter e s out }
 
 -- put to a state, it is answered for what has arrived
 module _ (q : Question) (s lent : List ℕ) where

@@ -26,7 +26,8 @@ use Rattle.manufacturing.specs.declared.DateMode.the-variants.{AsIs}
 use Rattle.manufacturing.proofs.Refused.{manufacturing-refusals}
 use Rattle.crc.specs.Base.{crcRanges, baseCrcOf, soundIn, soundReadOf}
 use Rattle.crc.proofs.Refused.{crc-refusals}
-use Rattle.rules.specs.Lint.{findingsOf}
+use Rattle.rules.specs.declared.Edition.{Edition}
+use Rattle.rules.specs.Lint.{editionOf, findingsOf}
 use Rattle.rules.specs.Table.{allIn}
 use Rattle.report.specs.Form.{restOf, findingsIn}
 use Rattle.report.specs.Read.{lengthIn, contentOf}
@@ -34,7 +35,8 @@ use Rattle.report.specs.Write.{lintReportOf}
 use Rattle.pieces.specs.Fed.{keptBytes, acceptedAt, longest}
 use Rattle.roostcord.specs.Numbers.{crcNumber, identityList, timingsList, casNumbers, clocksList, modeOf, manufacturingList, partList, reportList, listedIn}
 use Rattle.roostcord.specs.Word.{refusalWord}
-use Rattle.roostcord.specs.State.{short, countIn, arrivedIn, asked, freshIn, feedIn, takenIn}
+use Rattle.roostcord.specs.Chosen.{chosen, lintIn}
+use Rattle.roostcord.specs.State.{short, countIn, editionIn, arrivedIn, asked, freshIn, feedIn, takenIn}
 use Rattle.roostcord.proofs.Once.{InBits, word-once}
 
 -- a refusal, if it is one, has its values within their bits
@@ -98,11 +100,19 @@ pub sound-bits : (first second : List ℕ) → Fits (soundReadOf first second)
 unfolding soundReadOf
 sound-bits first second = either Fits (soundIn first) tt (either Fits (soundIn second) tt plain)
 
+-- ---- a call that is given an edition
+chosen-bits : {A : Type 0} (n : ℕ) (answer : Edition → Said A) → ((e : Edition) → Fits (answer e)) → Fits (chosen n answer)
+chosen-bits n answer h = on-fits (editionOf n) _ (either Fits (eqb n 1) tt (either Fits (eqb n 2) tt plain)) h
+
 -- ---- the calls on an image, and on a report
 module _ (s : List ℕ) (room : ℕ) where
-  pub lint-bits : Fits (lintReportOf s room)
+  report-fits : (e : Edition) → Fits (lintReportOf e s room)
   unfolding lintReportOf
-  lint-bits = either Fits (ltb room (restOf (length (findingsOf s)) + 2)) plain tt
+  report-fits e = either Fits (ltb room (restOf (length (findingsOf e s)) + 2)) plain tt
+
+  pub lint-bits : (n : ℕ) → Fits (lintIn n s room)
+  unfolding lintIn
+  lint-bits n = chosen-bits n _ report-fits
 
   pub identity-bits : AllBytes s → Fits (listedIn 18 (identityList s) room)
   unfolding identityList identityOf
@@ -144,9 +154,9 @@ module _ (s : List ℕ) where
   pub asked-bits : {A : Type 0} (said : Said A) → Fits said → Fits (asked s said)
   asked-bits said h = either Fits (short s) plain h
 
-  pub fresh-bits : Fits (freshIn s)
+  pub fresh-bits : (n : ℕ) → Fits (freshIn n s)
   unfolding freshIn
-  fresh-bits = asked-bits (gives 0) tt
+  fresh-bits n = chosen-bits n _ (λ e. asked-bits (gives 0) tt)
 
   pub taken-bits : Fits (takenIn s)
   unfolding takenIn
@@ -170,8 +180,8 @@ module _ (s : List ℕ) where
       (few, omega arith))
 
   module _ (room : ℕ) where
-    pub state-lint-bits : Fits (asked s (lintReportOf (arrivedIn s) room))
-    state-lint-bits = asked-bits _ (lint-bits (arrivedIn s) room)
+    pub state-lint-bits : Fits (asked s (lintReportOf (editionIn s) (arrivedIn s) room))
+    state-lint-bits = asked-bits _ (report-fits (arrivedIn s) room (editionIn s))
 
     pub state-identity-bits : AllBytes s → Fits (asked s (listedIn 18 (identityList (arrivedIn s)) room))
     state-identity-bits h = asked-bits _ (identity-bits (arrivedIn s) room (arrived-bytes h))

@@ -8,7 +8,7 @@ use borrow.Author.Tests.{lt-ltb, le-ltb}
 use Rattle.reading.specs.Said.{Told, gives, refuses, refused}
 use Rattle.pieces.specs.Fed.{keptBytes, overlaid, acceptedAt}
 use Rattle.roostcord.specs.Word.{wordOf}
-use Rattle.roostcord.specs.State.{stateSize, countIn, stateBytes, feedIn, feedAfter}
+use Rattle.roostcord.specs.State.{stateSize, countIn, editionIn, stateBytes, feedIn, feedAfter}
 
 module _ (s : List ℕ) (offset : ℕ) (piece : List ℕ) where
   abbrev Fed : ℤ → List ℕ → Type 0
@@ -24,7 +24,7 @@ module _ (s : List ℕ) (offset : ℕ) (piece : List ℕ) where
     not-taken r e = rw (le-ltb (length s) stateSize h, rw m at r) (e, refl)
 
     pub taken : {n : ℕ} → acceptedAt k offset (length piece) ≡ gives n → {z : ℤ} {later : List ℕ} → z ≡ pos n
-        → later ≡ stateBytes (record { kept = overlaid (take keptBytes (drop 2 s)) k piece; taken = n }) ++ drop stateSize s
+        → later ≡ stateBytes (record { kept = overlaid (take keptBytes (drop 2 s)) k piece; taken = n; edition = editionIn s }) ++ drop stateSize s
         → Fed z later
     unfolding feedIn feedAfter
     taken r e f = rw (le-ltb (length s) stateSize h, rw m at r) (e, rw m at f)

@@ -1,27 +1,31 @@
 -- The state in lent bytes is tied to the state by value. A count that feeding leads to is within the longest image, so its two bytes hold it,
 -- and the bytes after a call are the state after that call; what is known of a run of calls by value then holds of the bytes. Assumes nothing.
 use Prim.Native.Nat.{ℕ, zero, suc, _+_, _*_, _/_, _%_, _<_, _≤_}
-use mathlib.Core.Path.{_≡_, refl, ap, sym, subst, _∙_}
+use mathlib.Core.Path.{_≡_, refl, ap, sym, subst, subst⁻¹, _∙_}
 use mathlib.Core.Bool.{false}
 use mathlib.Core.List.{List, [], _∷_, _++_, map}
 use native.Mathlib.Omega.{arith}
-use lib.ListN.{length, take, drop, length-append, length-take, length-drop}
+use lib.Dec.{eqb}
+use lib.ListN.{length, take, drop, replicate, length-append, length-take, length-drop}
 use lib.Seq.{take-at, drop-at}
-use borrow.Author.Tests.{le-ltb, ltb-false}
+use borrow.Author.Tests.{eq-eqb, ne-eqb, le-ltb, ltb-false}
 use Rattle.reading.specs.Pick.{pick}
 use Rattle.reading.specs.Said.{Told, Said, gives, refuses}
 use Rattle.reading.proofs.Picked.{by-test}
+use Rattle.rules.specs.declared.Edition.{Edition}
+use Rattle.rules.specs.declared.Edition.the-variants.{First, Second}
+use Rattle.rules.specs.Lint.{editionOf}
 use Rattle.pieces.specs.declared.Pieces.{Pieces}
 use Rattle.pieces.specs.Fed.{keptBytes, longest, overlaid, Feeding, acceptedAt, fedBy, freshPieces, keptOf, Holds}
 use Rattle.pieces.specs.Run.{Call, runFrom, run, image, answersFrom, saidFrom}
 use Rattle.pieces.proofs.Accepting.{given, by-answer}
-use Rattle.pieces.proofs.Running.{run-holds, run-says}
+use Rattle.pieces.proofs.Running.{run-holds, run-says, run-edition}
 use Rattle.pieces.proofs.Asking.{run-identity, run-timings, run-manufacturing, run-part, run-crc, run-findings}
 use Rattle.report.specs.Write.{lintReportOf, lintReportAfter}
 use Rattle.roostcord.specs.Word.{wordOf}
 use Rattle.manufacturing.specs.declared.DateMode.the-variants.{AsIs}
 use Rattle.roostcord.specs.Numbers.{crcNumber, identityList, timingsList, casNumbers, clocksList, modeOf, manufacturingList, partList}
-use Rattle.roostcord.specs.State.{stateSize, short, countIn, stateIn, stateBytes, arrivedIn, asked, freshAfter, feedIn, feedAfter, takenIn, fedBytes, saidBytes}
+use Rattle.roostcord.specs.State.{stateSize, short, countIn, editionIn, mark, stateIn, stateBytes, arrivedIn, asked, freshIn, freshAfter, feedIn, feedAfter, takenIn, fedBytes, saidBytes}
 use Rattle.roostcord.proofs.Answers.{Question, listing, reporting}
 
 length-over : (k : List ℕ) (at : ℕ) (p : List ℕ) → length (overlaid k at p) ≡ length k
@@ -31,12 +35,27 @@ length-over (x ∷ k) (suc at) p = ap suc (length-over k at p)
 length-over (x ∷ k) zero [] = refl
 length-over (x ∷ k) zero (y ∷ p) = ap suc (length-over k zero p)
 
+-- the two bytes before what is kept say the count and the edition
+count-back : (e : Edition) (n : ℕ) → n < 4096 → n % 256 + 256 * ((n / 256 + mark e) % 16) ≡ n
+count-back First n h = omega arith
+count-back Second n h = omega arith
+
+edition-back : (e : Edition) (n : ℕ) → n < 4096 → pick (eqb ((n / 256 + mark e) / 16 % 2) 1) First Second ≡ e
+edition-back First n h = rw (eq-eqb ((n / 256 + 16) / 16 % 2) 1 (omega arith))
+edition-back Second n h = rw (ne-eqb ((n / 256 + 0) / 16 % 2) 1 (λ e. omega arith))
+
+-- zeros are a fresh state of edition 2
+pub fresh-zeros : stateBytes (freshPieces Second) ≡ replicate stateSize 0
+fresh-zeros = refl
+
 -- the bytes of a state whose count has twelve bits, with anything behind them: they are that state, and the rest stays
 module _ (p : Pieces) (rest : List ℕ) (k : length (p .kept) ≡ keptBytes) where
   back : p .taken < 4096 → stateIn (stateBytes p ++ rest) ≡ p
-  back h =
-      let n : p .taken % 256 + 256 * (p .taken / 256 % 16) ≡ p .taken = omega arith in
-      λ i. record { kept = take-at (p .kept) rest keptBytes k i; taken = n i }
+  back h i = record {
+    kept = take-at (p .kept) rest keptBytes k i;
+    taken = count-back (p .edition) (p .taken) h i;
+    edition = edition-back (p .edition) (p .taken) h i;
+  }
 
   behind : drop stateSize (stateBytes p ++ rest) ≡ rest
   behind = drop-at (p .kept) rest keptBytes k
@@ -44,22 +63,28 @@ module _ (p : Pieces) (rest : List ℕ) (k : length (p .kept) ≡ keptBytes) whe
   long : stateSize ≤ length (stateBytes p ++ rest)
   long = omega (arith, length-append (p .kept) rest)
 
+-- a number that is no edition leaves the bytes as they were, however many they are
+pub fresh-refused : (n : ℕ) (s : List ℕ) (t : Told) → editionOf n ≡ refuses t → (freshIn n s ≡ refuses t) × (freshAfter n s ≡ s)
+unfolding freshIn freshAfter
+fresh-refused n s t e = rw e (refl, refl)
+
 module _ (s : List ℕ) (h : stateSize ≤ length s) where
-  pub fresh-tied : stateIn (freshAfter s) ≡ freshPieces
-  unfolding freshAfter
-  fresh-tied = rw (le-ltb (length s) stateSize h) (back freshPieces (drop stateSize s) refl (omega arith))
+  module _ (n : ℕ) {e : Edition} (c : editionOf n ≡ gives e) where
+    pub fresh-tied : stateIn (freshAfter n s) ≡ freshPieces e
+    unfolding freshAfter
+    fresh-tied = rw (c, le-ltb (length s) stateSize h) (back (freshPieces e) (drop stateSize s) refl (omega arith))
 
-  pub fresh-behind : drop stateSize (freshAfter s) ≡ drop stateSize s
-  unfolding freshAfter
-  fresh-behind = rw (le-ltb (length s) stateSize h) (behind freshPieces (drop stateSize s) refl)
+    pub fresh-behind : drop stateSize (freshAfter n s) ≡ drop stateSize s
+    unfolding freshAfter
+    fresh-behind = rw (c, le-ltb (length s) stateSize h) (behind (freshPieces e) (drop stateSize s) refl)
 
-  fresh-long : stateSize ≤ length (freshAfter s)
-  unfolding freshAfter
-  fresh-long = rw (le-ltb (length s) stateSize h) (long freshPieces (drop stateSize s) refl)
+    fresh-long : stateSize ≤ length (freshAfter n s)
+    unfolding freshAfter
+    fresh-long = rw (c, le-ltb (length s) stateSize h) (long (freshPieces e) (drop stateSize s) refl)
 
   module _ (offset : ℕ) (piece : List ℕ) where
     abbrev later : (total : ℕ) → Pieces
-    later total = record { kept = overlaid (take keptBytes (drop 2 s)) (countIn s) piece; taken = total }
+    later total = record { kept = overlaid (take keptBytes (drop 2 s)) (countIn s) piece; taken = total; edition = editionIn s }
 
     kept-all : length (overlaid (take keptBytes (drop 2 s)) (countIn s) piece) ≡ keptBytes
     kept-all = length-over (take keptBytes (drop 2 s)) (countIn s) piece ∙ simp (length-take, length-drop) (omega arith)
@@ -118,28 +143,28 @@ ran (c ∷ cs) s h =
       long = r .long;
     }
 
--- any list of calls, from a fresh state
-module _ (cs : List Call) (s : List ℕ) (h : stateSize ≤ length s) where
+-- any list of calls, from a fresh state of the edition that a number stands for
+module _ (n : ℕ) {e : Edition} (c : editionOf n ≡ gives e) (cs : List Call) (s : List ℕ) (h : stateSize ≤ length s) where
   abbrev fed : List ℕ
-  fed = fedBytes (freshAfter s) cs
+  fed = fedBytes (freshAfter n s) cs
 
-  from-fresh : Ran (freshAfter s) cs
-  from-fresh = ran cs (freshAfter s) (fresh-long s h)
+  from-fresh : Ran (freshAfter n s) cs
+  from-fresh = ran cs (freshAfter n s) (fresh-long s h n c)
 
   -- leads to the state by value that the calls lead to
-  pub fed-run : stateIn fed ≡ run cs
-  fed-run = from-fresh .state ∙ ap (λ (p : Pieces). runFrom p cs) (fresh-tied s h)
+  pub fed-run : stateIn fed ≡ run e cs
+  fed-run = from-fresh .state ∙ ap (λ (p : Pieces). runFrom p cs) (fresh-tied s h n c)
 
   -- is answered by the calls alone, as the state by value is
-  pub fed-says : saidBytes (freshAfter s) cs ≡ answersFrom 0 cs
-  fed-says = from-fresh .says ∙ ap (λ (p : Pieces). saidFrom p cs) (fresh-tied s h) ∙ run-says cs
+  pub fed-says : saidBytes (freshAfter n s) cs ≡ answersFrom 0 cs
+  fed-says = from-fresh .says ∙ ap (λ (p : Pieces). saidFrom p cs) (fresh-tied s h n c) ∙ run-says e cs
 
-  pub fed-words : map wordOf (saidBytes (freshAfter s) cs) ≡ map wordOf (answersFrom 0 cs)
+  pub fed-words : map wordOf (saidBytes (freshAfter n s) cs) ≡ map wordOf (answersFrom 0 cs)
   fed-words = ap (map wordOf) fed-says
 
   -- leaves what lies behind the state
   pub run-behind : drop stateSize fed ≡ drop stateSize s
-  run-behind = from-fresh .behind ∙ fresh-behind s h
+  run-behind = from-fresh .behind ∙ fresh-behind s h n c
 
   -- and leads to no state that is short
   pub fed-whole : short fed ≡ false
@@ -147,60 +172,68 @@ module _ (cs : List Call) (s : List ℕ) (h : stateSize ≤ length s) where
 
   -- so it holds the bytes that were brought, and every question to it is answered for them
   pub fed-holds : Holds (stateIn fed) (image cs)
-  fed-holds = subst (λ (p : Pieces). Holds p (image cs)) (sym fed-run) (run-holds cs)
+  fed-holds = subst (λ (p : Pieces). Holds p (image cs)) (sym fed-run) (run-holds e cs)
 
-  pub fed-arrived : arrivedIn fed ≡ keptOf (run cs)
+  pub fed-arrived : arrivedIn fed ≡ keptOf (run e cs)
   fed-arrived = ap keptOf fed-run
 
   pub fed-identity : identityList (arrivedIn fed) ≡ identityList (image cs)
   unfolding identityList
-  fed-identity = ap identityList fed-arrived ∙ rw (run-identity cs)
+  fed-identity = ap identityList fed-arrived ∙ rw (run-identity e cs)
 
   pub fed-timings : timingsList (arrivedIn fed) ≡ timingsList (image cs)
   unfolding timingsList
-  fed-timings = ap timingsList fed-arrived ∙ rw (run-timings cs)
+  fed-timings = ap timingsList fed-arrived ∙ rw (run-timings e cs)
 
   pub fed-cas : casNumbers (arrivedIn fed) ≡ casNumbers (image cs)
   unfolding casNumbers
-  fed-cas = ap casNumbers fed-arrived ∙ rw (run-timings cs)
+  fed-cas = ap casNumbers fed-arrived ∙ rw (run-timings e cs)
 
   pub fed-clocks : clocksList (arrivedIn fed) ≡ clocksList (image cs)
   unfolding clocksList
-  fed-clocks = ap clocksList fed-arrived ∙ rw (run-timings cs)
+  fed-clocks = ap clocksList fed-arrived ∙ rw (run-timings e cs)
 
   pub fed-manufacturing : (strict : ℕ) → manufacturingList strict (arrivedIn fed) ≡ manufacturingList strict (image cs)
   unfolding manufacturingList
-  fed-manufacturing strict = ap (manufacturingList strict) fed-arrived ∙ rw (run-manufacturing cs (modeOf strict), run-part cs)
+  fed-manufacturing strict = ap (manufacturingList strict) fed-arrived ∙ rw (run-manufacturing e cs (modeOf strict), run-part e cs)
 
   pub fed-part : partList (arrivedIn fed) ≡ partList (image cs)
   unfolding partList
-  fed-part = ap partList fed-arrived ∙ rw (run-manufacturing cs AsIs, run-part cs)
+  fed-part = ap partList fed-arrived ∙ rw (run-manufacturing e cs AsIs, run-part e cs)
 
   pub fed-crc : crcNumber (arrivedIn fed) ≡ crcNumber (image cs)
   unfolding crcNumber
-  fed-crc = ap crcNumber fed-arrived ∙ rw (run-crc cs)
+  fed-crc = ap crcNumber fed-arrived ∙ rw (run-crc e cs)
 
-  pub fed-lint : (room : ℕ) → lintReportOf (arrivedIn fed) room ≡ lintReportOf (image cs) room
+  pub fed-edition : editionIn fed ≡ e
+  fed-edition = ap (λ (p : Pieces). p .edition) fed-run ∙ run-edition e cs
+
+  pub fed-lint : (room : ℕ) → lintReportOf e (arrivedIn fed) room ≡ lintReportOf e (image cs) room
   unfolding lintReportOf
-  fed-lint room = ap (λ (b : List ℕ). lintReportOf b room) fed-arrived ∙ rw (run-findings cs)
+  fed-lint room = ap (λ (b : List ℕ). lintReportOf e b room) fed-arrived ∙ rw (run-findings e cs)
 
-  pub fed-report : (out : List ℕ) → lintReportAfter (arrivedIn fed) out ≡ lintReportAfter (image cs) out
+  pub fed-report : (out : List ℕ) → lintReportAfter e (arrivedIn fed) out ≡ lintReportAfter e (image cs) out
   unfolding lintReportOf lintReportAfter
-  fed-report out = ap (λ (b : List ℕ). lintReportAfter b out) fed-arrived ∙ rw (run-findings cs, run-identity cs, run-timings cs)
+  fed-report out = ap (λ (b : List ℕ). lintReportAfter e b out) fed-arrived ∙ rw (run-findings e cs, run-identity e cs, run-timings e cs)
 
   -- THE QUESTIONS: put to the state, a question is answered as for the image that was brought, and leaves what was lent so too
   abbrev pub AsImage : Question → (lent : List ℕ) → Type 0
   AsImage q lent = (asked fed (q .answer (arrivedIn fed)) ≡ q .answer (image cs)) × (pick (short fed) lent (q .after (arrivedIn fed)) ≡ q .after (image cs))
 
   as-image : (q : Question) (lent : List ℕ) → q .answer (arrivedIn fed) ≡ q .answer (image cs) → q .after (arrivedIn fed) ≡ q .after (image cs) → AsImage q lent
-  as-image q lent e f = rw fed-whole (e, f)
+  as-image q lent a b = rw fed-whole (a, b)
 
   listed-as : (need : ℕ) (numbers : List ℕ → Said (List ℕ)) (out : List ℕ) → numbers (arrivedIn fed) ≡ numbers (image cs) → AsImage (listing need numbers out) out
-  listed-as need numbers out e = as-image (listing need numbers out) out (rw e) (rw e)
+  listed-as need numbers out a = as-image (listing need numbers out) out (rw a) (rw a)
 
   module _ (out : List ℕ) where
-    pub ask-lint : AsImage (reporting out) out
-    ask-lint = as-image (reporting out) out (fed-lint (length out)) (fed-report out)
+    -- linting goes by the edition that the state says, and that is the one that it was given
+    pub ask-lint : (asked fed (lintReportOf (editionIn fed) (arrivedIn fed) (length out)) ≡ lintReportOf e (image cs) (length out))
+        × (pick (short fed) out (lintReportAfter (editionIn fed) (arrivedIn fed) out) ≡ lintReportAfter e (image cs) out)
+    ask-lint = subst⁻¹
+        (λ (d : Edition). (asked fed (lintReportOf d (arrivedIn fed) (length out)) ≡ lintReportOf e (image cs) (length out))
+        × (pick (short fed) out (lintReportAfter d (arrivedIn fed) out) ≡ lintReportAfter e (image cs) out))
+        fed-edition (as-image (reporting e out) out (fed-lint (length out)) (fed-report out))
 
     pub ask-identity : AsImage (listing 18 identityList out) out
     ask-identity = listed-as 18 identityList out fed-identity

@@ -1,3 +1,4 @@
 pub mod Word
 pub mod Numbers
+pub mod Chosen
 pub mod State

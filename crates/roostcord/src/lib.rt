@@ -1,18 +1,20 @@
 // The station's library: what C calls. An answer of 0 or more is a count. Below zero it is a refusal: its word with a minus sign, and nothing
 // that was lent has changed. station/roostcord.h is its header.
 ghost use mathlib.Core.Path.{_≡_};
-ghost use Prim.Native.Nat.{_*_, _<_, _≤_};
+ghost use Prim.Native.Nat.{_*_, _/_, _%_, _<_, _≤_};
 ghost use lib.IntN.{pos, negℤ};
 ghost use lib.ListN.{length, take};
 ghost use Rattle.reading.specs.Pick.{pick};
-ghost use Rattle.reading.specs.Said.{told};
+ghost use Rattle.reading.specs.Said.{told, gives};
 ghost use Rattle.reading.specs.Lent.{laid};
 ghost use Rattle.decoders.specs.Identity.{wholeOf};
 ghost use Rattle.crc.specs.Base.{soundReadOf};
+ghost use Rattle.rules.specs.Lint.{editionOf};
 ghost use Rattle.report.specs.Write.{lintReportOf, lintReportAfter};
 ghost use Rattle.roostcord.specs.Word.{refusalWord, wordOf, libraryVersion};
+ghost use Rattle.roostcord.specs.Chosen.{lintIn, lintAfter};
 ghost use Rattle.roostcord.specs.Numbers.{crcNumber, identityNumbers, timingNumbers, clockNumbers, reportNumbers, identityList, timingsList, casNumbers, clocksList, manufacturingNumbers, modeOf, manufacturingList, partList, reportList, listedIn, listAfter};
-ghost use Rattle.roostcord.specs.State.{stateSize, countIn, arrivedIn, asked, short, freshIn, freshAfter, feedIn, feedAfter, takenIn};
+ghost use Rattle.roostcord.specs.State.{stateSize, countIn, editionIn, arrivedIn, asked, short, freshIn, freshAfter, feedIn, feedAfter, takenIn};
 use crc::CrcAnswer;
 use crc::SoundRead;
 use decoders::clocks::ClockTable;
@@ -36,8 +38,10 @@ use pieces::KEPT;
 use reading::Refusal;
 use report::ReadAnswer;
 use report::WriteAnswer;
+use rules::Edition;
+use rules::EditionAnswer;
 
-// A state in lent bytes: the count taken in two bytes, then the bytes that are kept.
+// A state in lent bytes: the count taken and the edition in two bytes, then the bytes that are kept.
 const STATE_SIZE: usize = 2 + KEPT;
 
 // The version of the library: major * 65536 + minor * 256 + patch.
@@ -45,16 +49,26 @@ const STATE_SIZE: usize = 2 + KEPT;
 pub extern "C" fn roostcord_version() -> u32
     ensures { λ r. ⌜ r ≡ libraryVersion ⌝ }
 {
-    0x010300
+    0x020000
 }
 
-// Lints an image and writes its report: how many bytes.
+// Lints an image under an edition, 1 or 2, and writes its report: how many bytes.
 #[no_mangle]
-pub extern "C" fn roostcord_lint(image: &[u8], report: &mut [u8]) -> i32
-    ensures answer { λ r. ⌜ r ≡ wordOf (lintReportOf (now (image .entry)) (length (now (report .entry)))) ⌝ }
-    ensures later { λ r. ⌜ now (report .exit) ≡ lintReportAfter (now (image .entry)) (now (report .entry)) ⌝ }
+pub extern "C" fn roostcord_lint(image: &[u8], edition: u32, report: &mut [u8]) -> i32
+    ensures answer { λ r. ⌜ r ≡ wordOf (lintIn edition (now (image .entry)) (length (now (report .entry)))) ⌝ }
+    ensures later { λ r. ⌜ now (report .exit) ≡ lintAfter edition (now (image .entry)) (now (report .entry)) ⌝ }
 {
-    let reported = report::lint_report(image, report);
+    match rules::edition_of(edition) {
+        EditionAnswer::Chosen(e) => lint_word(image, e, report),
+        EditionAnswer::Refused(why) => refusal_word(why),
+    }
+}
+
+fn lint_word(image: &[u8], edition: Edition, report: &mut [u8]) -> i32
+    ensures answer { λ r. ⌜ r ≡ wordOf (lintReportOf edition (now (image .entry)) (length (now (report .entry)))) ⌝ }
+    ensures later { λ r. ⌜ now (report .exit) ≡ lintReportAfter edition (now (image .entry)) (now (report .entry)) ⌝ }
+{
+    let reported = report::lint_report(image, edition, report);
     let written = reported.written;
     match written {
         WriteAnswer::Bytes(n) => count_word(n),
@@ -246,12 +260,16 @@ pub extern "C" fn roostcord_sound_read(first: &[u8], second: &[u8]) -> i32
     }
 }
 
-// Makes the first bytes a state that has taken nothing.
+// Makes the first bytes a state of an edition, 1 or 2, that has taken nothing.
 #[no_mangle]
-pub extern "C" fn roostcord_pieces_fresh(state: &mut [u8]) -> i32
-    ensures answer { λ r. ⌜ r ≡ wordOf (freshIn (now (state .entry))) ⌝ }
-    ensures later { λ r. ⌜ now (state .exit) ≡ freshAfter (now (state .entry)) ⌝ }
+pub extern "C" fn roostcord_pieces_fresh(state: &mut [u8], edition: u32) -> i32
+    ensures answer { λ r. ⌜ r ≡ wordOf (freshIn edition (now (state .entry))) ⌝ }
+    ensures later { λ r. ⌜ now (state .exit) ≡ freshAfter edition (now (state .entry)) ⌝ }
 {
+    let e = match rules::edition_of(edition) {
+        EditionAnswer::Chosen(e) => e,
+        EditionAnswer::Refused(why) => return refusal_word(why),
+    };
     if state.len() < STATE_SIZE {
         return refusal_word(Refusal::ListTooShort);
     }
@@ -260,6 +278,7 @@ pub extern "C" fn roostcord_pieces_fresh(state: &mut [u8]) -> i32
         state[i] = 0;
         i += 1;
     }
+    state[1] = mark(e);
     0
 }
 
@@ -272,14 +291,17 @@ pub extern "C" fn roostcord_pieces_feed(state: &mut [u8], offset: usize, piece: 
     if state.len() < STATE_SIZE {
         return refusal_word(Refusal::ListTooShort);
     }
-    let taken = count_in(state);
+    let word = word_in(state);
+    let taken = word % 4096;
     let total = match pieces::accept(taken, offset, piece.len()) {
         FeedAnswer::Taken(total) => total,
         FeedAnswer::Refused(why) => return refusal_word(why),
     };
     pieces::lay(&mut state[2..STATE_SIZE], taken, piece);
-    state[0] = (total % 256) as u8;
-    state[1] = (total / 256) as u8;
+    // The edition's bit stays, above the count; as one number the two bytes are stored at once.
+    let later = word % 8192 + piece.len();
+    state[0] = (later % 256) as u8;
+    state[1] = (later / 256) as u8;
     count_word(total)
 }
 
@@ -294,16 +316,16 @@ pub extern "C" fn roostcord_pieces_taken(state: &[u8]) -> i32
     count_word(count_in(state))
 }
 
-// The questions to a state are those to the image that has arrived.
+// The questions to a state are those to the image that has arrived, and linting goes by the state's edition.
 #[no_mangle]
 pub extern "C" fn roostcord_pieces_lint(state: &[u8], report: &mut [u8]) -> i32
-    ensures answer { λ r. ⌜ r ≡ wordOf (asked (now (state .entry)) (lintReportOf (arrivedIn (now (state .entry))) (length (now (report .entry))))) ⌝ }
-    ensures later { λ r. ⌜ now (report .exit) ≡ pick (short (now (state .entry))) (now (report .entry)) (lintReportAfter (arrivedIn (now (state .entry))) (now (report .entry))) ⌝ }
+    ensures answer { λ r. ⌜ r ≡ wordOf (asked (now (state .entry)) (lintReportOf (editionIn (now (state .entry))) (arrivedIn (now (state .entry))) (length (now (report .entry))))) ⌝ }
+    ensures later { λ r. ⌜ now (report .exit) ≡ pick (short (now (state .entry))) (now (report .entry)) (lintReportAfter (editionIn (now (state .entry))) (arrivedIn (now (state .entry))) (now (report .entry))) ⌝ }
 {
     if state.len() < STATE_SIZE {
         return refusal_word(Refusal::ListTooShort);
     }
-    roostcord_lint(arrived(state), report)
+    roostcord_lint(arrived(state), edition_in(state), report)
 }
 
 #[no_mangle]
@@ -412,6 +434,32 @@ fn count_in(state: &[u8]) -> usize
     ensures { λ r. ⌜ (r ≡ countIn (now (state .entry))) × (r < 4096) ⌝ }
 {
     wide(state[0]) + 256 * (wide(state[1]) % 16)
+}
+
+// The two bytes before what is kept as one number: the count in twelve bits, and above them the edition's.
+fn word_in(state: &[u8]) -> usize
+    requires { ⌜ 2 ≤ length (now state) ⌝ }
+    ensures { λ r. ⌜ (r % 4096 ≡ countIn (now (state .entry))) × (16 * (r / 4096 % 2) ≡ Rattle.roostcord.specs.State.mark (editionIn (now (state .entry)))) ⌝ }
+{
+    wide(state[0]) + 256 * wide(state[1])
+}
+
+// The number of the edition that a state says.
+fn edition_in(state: &[u8]) -> u32
+    requires { ⌜ 2 ≤ length (now state) ⌝ }
+    ensures { λ r. ⌜ editionOf r ≡ gives (editionIn (now (state .entry))) ⌝ }
+{
+    if wide(state[1]) / 16 % 2 == 1 { 1 } else { 2 }
+}
+
+// An edition's bit, as it stands in a state's second byte.
+fn mark(edition: Edition) -> u8
+    ensures { λ r. ⌜ r ≡ Rattle.roostcord.specs.State.mark edition ⌝ }
+{
+    match edition {
+        Edition::First => 16,
+        Edition::Second => 0,
+    }
 }
 
 fn wide(x: u8) -> usize

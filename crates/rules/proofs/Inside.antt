@@ -36,6 +36,7 @@ use Rattle.rules.specs.declared.ClockTimingParam.the-variants.{Trcd, Trp
 use Rattle.rules.specs.declared.SupportedSet.{SupportedSet}
 use Rattle.rules.specs.declared.SupportedSet.the-variants.{Unknown, Known}
 use Rattle.rules.specs.declared.RatedTimings.{RatedTimings}
+use Rattle.rules.specs.declared.Edition.{Edition}
 use Rattle.rules.specs.Table.{nonIntegerDeviceCount, timingOrderingViolation, nonIntegerClockTiming, packageDieCountMismatch, rowOf, inTable, allIn}
 use Rattle.rules.specs.Regions.{firstFrom, regionAt, regionRules}
 use Rattle.rules.specs.Rules.{deviceCount, coherence, trcIdentity, ordering, supported, casLatency, clockMultiple, onLadder, standardRate, identityRules, timingRules, ratedRules, each}
@@ -139,22 +140,22 @@ listed-clock Trp value tck = refl
 good-clock : (p : ClockTimingParam) (value tck : ℕ) → Good (clockMultiple p value tck)
 good-clock p value tck = either Good (eqb tck 0) tt (either Good (eqb (value % tck) 0) tt (listed-clock p value tck))
 
-good-rate : (rate : ℕ) → Good (standardRate rate)
+good-rate : (e : Edition) (rate : ℕ) → Good (standardRate e rate)
 unfolding inTable rowOf
-good-rate rate = either Good (eqb rate 0) tt (either Good (onLadder rate) tt refl)
+good-rate e rate = either Good (eqb rate 0) tt (either Good (onLadder e rate) tt refl)
 
-good-timings : (t : Timings) → t .taa .0 ≤ 65535 → Goods (each timingRules t)
-good-timings t h =
+good-timings : (e : Edition) (t : Timings) → t .taa .0 ≤ 65535 → Goods (each (timingRules e) t)
+good-timings e t h =
     more (good-trc (t .trc .0) (t .tras .0) (t .trp .0))
     (more (good-order RasGeRcd (t .tras .0) (t .trcd .0))
     (more (good-order RcGeRas (t .trc .0) (t .tras .0))
     (more (good-cas (t .taa .0) (t .«tckavg_min» .0) (Known (t .«supported_cas_latencies»)) (good-supported (t .taa .0 / t .«tckavg_min» .0) (t .«supported_cas_latencies») (omega (arith, div-le-self (t .taa .0) (t .«tckavg_min» .0)))))
     (more (good-clock Trcd (t .trcd .0) (t .«tckavg_min» .0))
     (more (good-clock Trp (t .trp .0) (t .«tckavg_min» .0))
-    (more (good-rate (rateOf (t .«tckavg_min» .0))) done))))))
+    (more (good-rate e (rateOf (t .«tckavg_min» .0))) done))))))
 
-given-timings : (v : View) → le16At v 30 ≤ 65535 → OfGiven (timingsAt v) (λ t. Goods (each timingRules t))
-given-timings v h = by-missing (missingAt timingRanges v) (λ e. rw e (good-timings (timesAt v) h)) (λ i e. rw e tt)
+given-timings : (e : Edition) (v : View) → le16At v 30 ≤ 65535 → OfGiven (timingsAt v) (λ t. Goods (each (timingRules e) t))
+given-timings e v h = by-missing (missingAt timingRanges v) (λ m. rw m (good-timings e (timesAt v) h)) (λ i m. rw m tt)
 
 -- two bytes make a number of at most 65,535
 short : (v : View) (at : ℕ) → v .byte at < 256 → v .byte (at + 1) < 256 → le16At v at ≤ 65535
@@ -162,16 +163,16 @@ unfolding le16At
 short v at h k = omega arith
 
 -- ---- all sixteen rules
-pub inside : (s : List ℕ) → AllBytes s → allIn (findingsOf s) ≡ true
+pub inside : (e : Edition) (s : List ℕ) → AllBytes s → allIn (findingsOf e s) ≡ true
 unfolding lintAt
-inside s bytes =
+inside e s bytes =
     let v = view s in
     let taa = short v 30 (bytes 30) (bytes 31) in
-    goods-in (each lintRules v)
+    goods-in (each (lintRules e) v)
     (goods-append (good-regions s bytes)
     (goods-append
     (goods-given identityRules (identityAt v) (good-identity (identityAt v) (decoded v)))
-    (goods-given timingRules (timingsAt v) (given-timings v taa))))
+    (goods-given (timingRules e) (timingsAt v) (given-timings e v taa))))
 
 -- ---- the package rule, which a decoded image never breaks, of any package and any die count that a byte holds
 listed-package : (p : PackageType) (dies : ℕ) → dies ≤ 255 → inTable (packageDieCountMismatch p dies) ≡ true
@@ -193,12 +194,12 @@ pub package-inside : (p : PackageType) (dies : ℕ) → dies ≤ 255 → allIn (
 package-inside p dies h = good-in (coherence p dies) (good-package p dies h)
 
 -- ---- a rated profile, of any numbers: its set is not known, so no CL is asked for
-pub rated-inside : (r : RatedTimings) → allIn (ratedFindings r) ≡ true
+pub rated-inside : (e : Edition) (r : RatedTimings) → allIn (ratedFindings e r) ≡ true
 unfolding ratedFindings
-rated-inside r =
-    goods-in (each ratedRules r)
+rated-inside e r =
+    goods-in (each (ratedRules e) r)
     (more (good-order RasGeRcd (r .tras .0) (r .trcd .0))
     (more (good-cas (r .taa .0) (r .«cycle_time» .0) Unknown tt)
     (more (good-clock Trcd (r .trcd .0) (r .«cycle_time» .0))
     (more (good-clock Trp (r .trp .0) (r .«cycle_time» .0))
-    (more (good-rate (r .«data_rate_mt_s»)) done)))))
+    (more (good-rate e (r .«data_rate_mt_s»)) done)))))

@@ -1,4 +1,4 @@
--- The ladder is document 01's list of fifteen rates. Nothing is promised in terms of the list. Assumes nothing.
+-- The ladder of each edition is a list of rates: nine, and document 01's fifteen. Nothing is promised in terms of the lists. Assumes nothing.
 use Prim.Native.Nat.{ℕ, zero, suc, _+_, _-_, _*_, _/_, _%_, _<_}
 use mathlib.Core.Path.{_≡_, refl, sym, _∙_, fun-ext}
 use mathlib.Core.List.{List, [], _∷_}
@@ -10,17 +10,20 @@ use Rattle.reading.specs.Pick.{pick, and}
 use Rattle.reading.proofs.Picked.{either, by-test, both}
 use Rattle.findings.specs.declared.Found.{Found}
 use Rattle.findings.specs.declared.Found.the-variants.{Nothing, One}
+use Rattle.rules.specs.declared.Edition.{Edition}
+use Rattle.rules.specs.declared.Edition.the-variants.{First, Second}
 use Rattle.rules.specs.Table.{nonStandardDataRate}
-use Rattle.rules.specs.Rules.{onLadder, standardRate}
+use Rattle.rules.specs.Rules.{top, onLadder, standardRate}
 
-abbrev pub fifteen : List ℕ
-fifteen = 3200 ∷ 3600 ∷ 4000 ∷ 4400 ∷ 4800 ∷ 5200 ∷ 5600 ∷ 6000 ∷ 6400 ∷ 6800 ∷ 7200 ∷ 7600 ∷ 8000 ∷ 8400 ∷ 8800 ∷ []
+abbrev pub rates : Edition → List ℕ
+rates First = 3200 ∷ 3600 ∷ 4000 ∷ 4400 ∷ 4800 ∷ 5200 ∷ 5600 ∷ 6000 ∷ 6400 ∷ []
+rates Second = 3200 ∷ 3600 ∷ 4000 ∷ 4400 ∷ 4800 ∷ 5200 ∷ 5600 ∷ 6000 ∷ 6400 ∷ 6800 ∷ 7200 ∷ 7600 ∷ 8000 ∷ 8400 ∷ 8800 ∷ []
 
 abbrev pub isIn : ℕ → List ℕ → Bool
 isIn x [] = false
 isIn x (y ∷ l) = pick (eqb y x) true (isIn x l)
 
--- n rates from one on, in steps of 400: of 15 from 3200 on it computes to the list
+-- n rates from one on, in steps of 400
 abbrev steps : ℕ → ℕ → List ℕ
 steps rate zero = []
 steps rate (suc n) = rate ∷ steps (rate + 400) n
@@ -40,33 +43,46 @@ off x r (suc n) h = rw (
   off x (r + 400) n (λ k l e. h (suc k) (omega arith) (omega arith)),
 )
 
+-- how many rates an edition has: its list is so many steps from 3200 on, and its end is the last of them
+abbrev rungs : Edition → ℕ
+rungs First = 9
+rungs Second = 15
+
+stepped : (e : Edition) → rates e ≡ steps 3200 (rungs e)
+stepped First = refl
+stepped Second = refl
+
+ends : (e : Edition) → top e + 400 ≡ 3200 + 400 * rungs e
+ends First = refl
+ends Second = refl
+
 -- each step up from 3200 is on the ladder
-rising : (rate k : ℕ) → k < 15 → 3200 + 400 * k ≡ rate → onLadder rate ≡ true
+rising : (e : Edition) (rate k : ℕ) → k < rungs e → 3200 + 400 * k ≡ rate → onLadder e rate ≡ true
 unfolding onLadder
-rising rate k h e = rw (le-leb 3200 rate (omega arith), le-leb rate 8800 (omega arith), eq-eqb (rate % 400) 0 (omega arith))
+rising e rate k h m = rw (le-leb 3200 rate (omega arith), le-leb rate (top e) (omega (arith, ends e)), eq-eqb (rate % 400) 0 (omega arith))
 
 -- and what is on the ladder is one of the steps
-among : (rate : ℕ) → onLadder rate ≡ true → isIn rate fifteen ≡ true
+among : (e : Edition) (rate : ℕ) → onLadder e rate ≡ true → isIn rate (steps 3200 (rungs e)) ≡ true
 unfolding onLadder
-among rate e =
-    let (low, rest) = both (leb 3200 rate) (and (leb rate 8800) (eqb (rate % 400) 0)) e in
-    let (high, whole) = both (leb rate 8800) (eqb (rate % 400) 0) rest in
+among e rate m =
+    let (low, rest) = both (leb 3200 rate) (and (leb rate (top e)) (eqb (rate % 400) 0)) m in
+    let (high, whole) = both (leb rate (top e)) (eqb (rate % 400) 0) rest in
     let from = leb-true 3200 rate low in
-    let to = leb-true rate 8800 high in
+    let to = leb-true rate (top e) high in
     let multiple = eqb-true (rate % 400) 0 whole in
-    on rate 3200 15 ((rate - 3200) / 400) (omega (arith, to)) (omega (arith, from, multiple))
+    on rate 3200 (rungs e) ((rate - 3200) / 400) (omega (arith, to, ends e)) (omega (arith, from, multiple))
 
--- for every rate: on the ladder is in the list
-pub listed : (rate : ℕ) → onLadder rate ≡ isIn rate fifteen
-listed rate =
-    by-test (onLadder rate)
-    (λ e. e ∙ sym (among rate e))
-    (λ e. e ∙ sym (off rate 3200 15 (λ k l h. true≢false (sym (rising rate k l h) ∙ e))))
+-- for every edition and every rate: on the ladder is in the list
+pub listed : (e : Edition) (rate : ℕ) → onLadder e rate ≡ isIn rate (rates e)
+listed e rate = rw (stepped e)
+    (by-test (onLadder e rate)
+    (λ m. m ∙ sym (among e rate m))
+    (λ m. m ∙ sym (off rate 3200 (rungs e) (λ k l h. true≢false (sym (rising e rate k l h) ∙ m)))))
 
 -- so the two are one function, and what is defined with the one is what is defined with the other
-pub ladder-is-list : onLadder ≡ (λ rate. isIn rate fifteen)
-ladder-is-list = fun-ext listed
+pub ladder-is-list : (e : Edition) → onLadder e ≡ (λ rate. isIn rate (rates e))
+ladder-is-list e = fun-ext (listed e)
 
 -- and the rule on the rate, which alone asks for the ladder, is the one that goes by the list
-pub rate-by-list : (rate : ℕ) → standardRate rate ≡ pick (eqb rate 0) Nothing (pick (isIn rate fifteen) Nothing (One (nonStandardDataRate rate)))
-rate-by-list rate = rw (listed rate)
+pub rate-by-list : (e : Edition) (rate : ℕ) → standardRate e rate ≡ pick (eqb rate 0) Nothing (pick (isIn rate (rates e)) Nothing (One (nonStandardDataRate rate)))
+rate-by-list e rate = rw (listed e rate)

@@ -1,7 +1,8 @@
 pub mod Ladder
+pub mod Editions
 pub mod Scan
 pub mod Gathered
-pub mod Listed
+pub mod Linter
 pub mod Never
 pub mod Reach
 pub mod Inside

@@ -22,6 +22,7 @@ use Rattle.decoders.specs.declared.identity.PackageType.{PackageType}
 use Rattle.rules.specs.Rules.{coherence, each, ratedRules}
 use Rattle.rules.specs.Lint.{onGiven, lintRules, lintAt, findingsOf, ratedFindings}
 use Rattle.rules.specs.declared.RatedTimings.{RatedTimings}
+use Rattle.rules.specs.declared.Edition.{Edition}
 
 -- P holds of the value, where one is given
 abbrev pub OfGiven : {A : Type 0} → Said A → (A → Type 0) → Type 0
@@ -93,13 +94,13 @@ fewer : (xs ys : List Found) (x : Found) → x ≡ Nothing → length (cat (xs +
 fewer xs ys x e = rw (e, cat-append xs (Nothing ∷ ys), length-append) (omega (arith, length-cat xs, length-cat ys))
 
 -- eight rules stand before the package rule and seven behind it
-pub fits : (v : View) → length (cat (each lintRules v)) ≤ 15
-fits v = fewer (take 8 (each lintRules v)) (drop 9 (each lintRules v)) _ (never v)
+pub fits : (e : Edition) (v : View) → length (cat (each (lintRules e) v)) ≤ 15
+fits e v = fewer (take 8 (each (lintRules e) v)) (drop 9 (each (lintRules e) v)) _ (never v)
 
-pub at-most-fifteen : (s : List ℕ) → length (findingsOf s) ≤ 15
+pub at-most-fifteen : (e : Edition) (s : List ℕ) → length (findingsOf e s) ≤ 15
 unfolding lintAt
-at-most-fifteen s = fits (view s)
+at-most-fifteen e s = fits e (view s)
 
-pub at-most-five : (r : RatedTimings) → length (ratedFindings r) ≤ 5
+pub at-most-five : (e : Edition) (r : RatedTimings) → length (ratedFindings e r) ≤ 5
 unfolding ratedFindings
-at-most-five r = length-cat (each ratedRules r)
+at-most-five e r = length-cat (each (ratedRules e) r)

@@ -4,13 +4,22 @@ use mathlib.Core.Path.{_≡_, refl, ap}
 use native.Mathlib.Omega.{arith}
 use Rattle.reading.proofs.Once.{unsaid, untold-told, once, told-once}
 use Rattle.decoders.proofs.Once.{identity-once, timings-once}
+use Rattle.rules.specs.declared.EditionAnswer.{EditionAnswer}
+use Rattle.rules.specs.declared.EditionAnswer.the-variants as edition
 use Rattle.rules.specs.declared.Linted.{Linted}
 use Rattle.rules.specs.declared.LintRecords.{LintRecords}
 use Rattle.rules.specs.declared.LintAnswer.{LintAnswer}
 use Rattle.rules.specs.declared.LintAnswer.the-variants as answer
 use Rattle.rules.specs.declared.RatedAnswer.{RatedAnswer}
 use Rattle.rules.specs.declared.RatedAnswer.the-variants as rated
-use Rattle.rules.specs.Lint.{Lint, lintSaid, Listing, listingSaid, lintAnswerSaid, ratedSaid}
+use Rattle.rules.specs.Lint.{editionSaid, Lint, lintSaid, Listing, listingSaid, lintAnswerSaid, ratedSaid}
+
+edition-back : (e : EditionAnswer) → unsaid edition.Chosen edition.Refused (editionSaid e) ≡ e
+edition-back (edition.Chosen e) = refl
+edition-back (edition.Refused why) = ap edition.Refused (untold-told why)
+
+pub edition-once : (a b : EditionAnswer) → editionSaid a ≡ editionSaid b → a ≡ b
+edition-once = once editionSaid (unsaid edition.Chosen edition.Refused) edition-back
 
 pub lint-once : (a b : Linted) → lintSaid a ≡ lintSaid b → a ≡ b
 lint-once a b e =

@@ -15,6 +15,7 @@ use Rattle.decoders.specs.declared.identity.ModuleType.the-variants.{Udimm}
 use Rattle.decoders.specs.declared.identity.DensityPerDie.the-variants.{Gb16}
 use Rattle.decoders.specs.declared.identity.PackageType.the-variants.{ThreeDs}
 use Rattle.rules.specs.declared.ClockTimingParam.the-variants.{Trcd, Trp}
+use Rattle.rules.specs.declared.Edition.the-variants.{Second}
 use Rattle.rules.specs.Table.{nonIntegerCasLatency, casLatencyNotSupported, nonIntegerClockTiming, reservedBytesNonzero}
 use Rattle.rules.specs.Lint.{lintAt}
 
@@ -28,7 +29,7 @@ pub data Line : Type 1 where
   rate : (tck rate : ℕ) → Line
   -- whether a CL is in the set of five bytes
   cas : (b0 b1 b2 b3 b4 cl : ℕ) → Bool → Line
-  -- the findings of the image are these and no others
+  -- the findings of the image under edition 2 are these and no others
   finds : Image → List Finding → Line
 
 -- a field alone of what a decoder said
@@ -41,7 +42,7 @@ holds see (field image f value) = only f (identityAt (see image)) ≡ gives valu
 holds see (refusal image number first second) = identityAt (see image) ≡ refused number first second
 holds see (rate tck mts) = rateOf tck ≡ mts
 holds see (cas b0 b1 b2 b3 b4 cl within) = inSet (casOf b0 b1 b2 b3 b4) cl ≡ within
-holds see (finds image findings) = lintAt (see image) ≡ findings
+holds see (finds image findings) = lintAt Second (see image) ≡ findings
 
 abbrev pub All : (Line → Type 0) → List Line → Type 0
 All P [] = Unit {0}

@@ -8,6 +8,7 @@ use Rattle.reading.specs.Lent.{laid}
 use Rattle.reading.specs.Said.{Said, gives, refused}
 use Rattle.findings.specs.declared.Finding.{Finding}
 use Rattle.findings.specs.Same.{severityNumber}
+use Rattle.rules.specs.declared.Edition.{Edition}
 use Rattle.rules.specs.Lint.{Listing, listingOf, findingsOf}
 
 -- a finding is three small numbers, which go into the one array, and three large ones, which go into the other
@@ -31,12 +32,12 @@ flat t (f ∷ l) = t f .a ∷ t f .b ∷ t f .c ∷ flat t l
 abbrev pub roomy : {A : Type 0} → (h n : List ℕ) → (short whole : A) → A
 roomy h n short whole = pick (ltb (length h) 45) short (pick (ltb (length n) 45) short whole)
 
-unfoldable pub lintNumbersOf : List ℕ → (h n : List ℕ) → Said Listing
-lintNumbersOf s h n = roomy h n (refused 4 0 0) (gives (listingOf s))
+unfoldable pub lintNumbersOf : Edition → List ℕ → (h n : List ℕ) → Said Listing
+lintNumbersOf e s h n = roomy h n (refused 4 0 0) (gives (listingOf e s))
 
 -- the lists afterwards: the findings' numbers at the front, the other places as they were
-unfoldable pub headsAfter : List ℕ → (h n : List ℕ) → List ℕ
-headsAfter s h n = roomy h n h (laid (flat smallOf (findingsOf s)) h)
+unfoldable pub headsAfter : Edition → List ℕ → (h n : List ℕ) → List ℕ
+headsAfter e s h n = roomy h n h (laid (flat smallOf (findingsOf e s)) h)
 
-unfoldable pub numbersAfter : List ℕ → (h n : List ℕ) → List ℕ
-numbersAfter s h n = roomy h n n (laid (flat numbersOf (findingsOf s)) n)
+unfoldable pub numbersAfter : Edition → List ℕ → (h n : List ℕ) → List ℕ
+numbersAfter e s h n = roomy h n n (laid (flat numbersOf (findingsOf e s)) n)

@@ -1,4 +1,4 @@
--- Document 01, rules 2 and 3: what each says of a record's values; the ladder as document 02, 2026-04, has it. Assumes nothing.
+-- Document 01, rules 2 and 3: what each says of a record's values; the ladder as document 02, 2026-04 and 2026-05, has it. Assumes nothing.
 use Prim.Native.Nat.{ℕ, _+_, _/_, _%_}
 use mathlib.Core.List.{List, [], _∷_}
 use mathlib.Core.Bool.{Bool}
@@ -21,6 +21,8 @@ use Rattle.rules.specs.declared.ClockTimingParam.the-variants.{Trcd, Trp
 use Rattle.rules.specs.declared.SupportedSet.{SupportedSet}
 use Rattle.rules.specs.declared.SupportedSet.the-variants.{Unknown, Known}
 use Rattle.rules.specs.declared.RatedTimings.{RatedTimings}
+use Rattle.rules.specs.declared.Edition.{Edition}
+use Rattle.rules.specs.declared.Edition.the-variants.{First, Second}
 use Rattle.rules.specs.Table.{nonIntegerDeviceCount, trcIdentityMismatch, timingOrderingViolation, nonIntegerCasLatency, casLatencyNotSupported, nonIntegerClockTiming, nonStandardDataRate, packageDieCountMismatch}
 
 -- the bus width is a positive multiple of the I/O width
@@ -65,38 +67,43 @@ clockMultiple param value tck =
     pick (eqb tck 0) Nothing
     (pick (eqb (value % tck) 0) Nothing (One (nonIntegerClockTiming param value tck)))
 
--- the ladder: a multiple of 400 from 3200 to 8800
-unfoldable pub onLadder : ℕ → Bool
-onLadder rate = and (leb 3200 rate) (and (leb rate 8800) (eqb (rate % 400) 0))
+-- where an edition's ladder ends: all that the editions differ in
+abbrev pub top : Edition → ℕ
+top First = 6400
+top Second = 8800
+
+-- the ladder: a multiple of 400 from 3200 to its end
+unfoldable pub onLadder : Edition → ℕ → Bool
+onLadder e rate = and (leb 3200 rate) (and (leb rate (top e)) (eqb (rate % 400) 0))
 
 -- silent with rate 0
-abbrev pub standardRate : (rate : ℕ) → Found
-standardRate rate = pick (eqb rate 0) Nothing (pick (onLadder rate) Nothing (One (nonStandardDataRate rate)))
+abbrev pub standardRate : Edition → (rate : ℕ) → Found
+standardRate e rate = pick (eqb rate 0) Nothing (pick (onLadder e rate) Nothing (One (nonStandardDataRate rate)))
 
 -- the rules on an identity record, in order
 abbrev pub identityRules : List (IdentityAndBase → Found)
 identityRules = capacity ∷ (λ d. coherence (d .«package_type») (d .«die_count»)) ∷ []
 
 -- the rules on a timing record, in order
-abbrev pub timingRules : List (Timings → Found)
-timingRules =
+abbrev pub timingRules : Edition → List (Timings → Found)
+timingRules e =
     (λ t. trcIdentity (t .trc .0) (t .tras .0) (t .trp .0))
     ∷ (λ t. ordering RasGeRcd (t .tras .0) (t .trcd .0))
     ∷ (λ t. ordering RcGeRas (t .trc .0) (t .tras .0))
     ∷ (λ t. casLatency (t .taa .0) (t .«tckavg_min» .0) (Known (t .«supported_cas_latencies»)))
     ∷ (λ t. clockMultiple Trcd (t .trcd .0) (t .«tckavg_min» .0))
     ∷ (λ t. clockMultiple Trp (t .trp .0) (t .«tckavg_min» .0))
-    ∷ (λ t. standardRate (rateOf (t .«tckavg_min» .0)))
+    ∷ (λ t. standardRate e (rateOf (t .«tckavg_min» .0)))
     ∷ []
 
 -- the rules on a rated profile, with its own cycle time and its given rate
-abbrev pub ratedRules : List (RatedTimings → Found)
-ratedRules =
+abbrev pub ratedRules : Edition → List (RatedTimings → Found)
+ratedRules e =
     (λ r. ordering RasGeRcd (r .tras .0) (r .trcd .0))
     ∷ (λ r. casLatency (r .taa .0) (r .«cycle_time» .0) Unknown)
     ∷ (λ r. clockMultiple Trcd (r .trcd .0) (r .«cycle_time» .0))
     ∷ (λ r. clockMultiple Trp (r .trp .0) (r .«cycle_time» .0))
-    ∷ (λ r. standardRate (r .«data_rate_mt_s»))
+    ∷ (λ r. standardRate e (r .«data_rate_mt_s»))
     ∷ []
 
 -- what each of a row of rules says, in order

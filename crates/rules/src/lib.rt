@@ -6,8 +6,8 @@ ghost use lib.ListN.{length};
 ghost use Rattle.reading.specs.Lent.{laid, listed};
 ghost use Rattle.findings.specs.Hold.{holding};
 ghost use Rattle.rules.specs.Table.{orderSub, clockSub};
-ghost use Rattle.rules.specs.Rules.{deviceCount, capacity, coherence};
-ghost use Rattle.rules.specs.Lint.{lintSaid, lintOf, replied, listingSaid, listingOf, lintAnswerSaid, lintAnswerOf, findingsOf, ratedFindings, ratedSaid, ratedReplied, ratedOf};
+ghost use Rattle.rules.specs.Rules.{deviceCount, capacity, coherence, top};
+ghost use Rattle.rules.specs.Lint.{editionSaid, editionOf, lintSaid, lintOf, replied, listingSaid, listingOf, lintAnswerSaid, lintAnswerOf, findingsOf, ratedFindings, ratedSaid, ratedReplied, ratedOf};
 ghost use Rattle.rules.specs.Lanes.{smallOf, numbersOf, flat, lintNumbersOf, headsAfter, numbersAfter};
 use decoders::identity::IdentityAndBase;
 use decoders::identity::IdentityAnswer;
@@ -34,6 +34,41 @@ mod gather;
 mod regions;
 mod table;
 mod timing;
+
+// The edition of JESD79-5 whose ladder a data rate is held to.
+pub enum Edition {
+    First,
+    Second,
+}
+
+impl Edition {
+    // Where its ladder ends.
+    pub(crate) fn top(self) -> u32
+        ensures { λ r. ⌜ r ≡ top self ⌝ }
+    {
+        match self {
+            Edition::First => 6400,
+            Edition::Second => 8800,
+        }
+    }
+}
+
+// An edition, or why a number is none.
+pub enum EditionAnswer {
+    Chosen(Edition),
+    Refused(Refusal),
+}
+
+// The edition of a number. Only here does a number become an edition, so a call that takes an edition need not refuse one.
+pub fn edition_of(number: u32) -> EditionAnswer
+    ensures { λ r. ⌜ editionSaid r ≡ editionOf number ⌝ }
+{
+    match number {
+        1 => EditionAnswer::Chosen(Edition::First),
+        2 => EditionAnswer::Chosen(Edition::Second),
+        _ => EditionAnswer::Refused(Refusal::UnknownEdition),
+    }
+}
 
 // A timing ordering that must hold; it chooses the finding's sub.
 pub enum TimingOrder {
@@ -114,12 +149,12 @@ pub enum RatedAnswer {
 }
 
 // An image's lint by value: both decoders' answers and the findings.
-pub fn lint_image(image: &[u8]) -> Linted
-    ensures { λ r. ⌜ lintSaid r ≡ lintOf (now (image .entry)) ⌝ }
+pub fn lint_image(image: &[u8], edition: Edition) -> Linted
+    ensures { λ r. ⌜ lintSaid r ≡ lintOf edition (now (image .entry)) ⌝ }
 {
     let mut heads = [0u8; 45];
     let mut numbers = [0u32; 45];
-    let linted = run_rules(image, &mut heads, &mut numbers);
+    let linted = run_rules(image, edition, &mut heads, &mut numbers);
     let identity = linted.identity;
     let timings = linted.timings;
     let findings = records(&heads, &numbers, linted.count);
@@ -132,8 +167,13 @@ pub fn lint_image(image: &[u8]) -> Linted
 
 // Lint an image into two lent lists of at least forty-five numbers: for each finding its code, severity and sub in the one, its three numbers in the
 // other. No record is made, so this is the way for a caller that only passes the numbers on.
-pub fn lint_numbers(image: &[u8], heads: &mut [u8], numbers: &mut [u32]) -> LintAnswer
-    ensures { λ r. ⌜ (lintAnswerSaid r ≡ lintNumbersOf (now (image .entry)) (now (heads .entry)) (now (numbers .entry))) × (now (heads .exit) ≡ headsAfter (now (image .entry)) (now (heads .entry)) (now (numbers .entry))) × (now (numbers .exit) ≡ numbersAfter (now (image .entry)) (now (heads .entry)) (now (numbers .entry))) ⌝ }
+pub fn lint_numbers(
+    image: &[u8],
+    edition: Edition,
+    heads: &mut [u8],
+    numbers: &mut [u32],
+) -> LintAnswer
+    ensures { λ r. ⌜ (lintAnswerSaid r ≡ lintNumbersOf edition (now (image .entry)) (now (heads .entry)) (now (numbers .entry))) × (now (heads .exit) ≡ headsAfter edition (now (image .entry)) (now (heads .entry)) (now (numbers .entry))) × (now (numbers .exit) ≡ numbersAfter edition (now (image .entry)) (now (heads .entry)) (now (numbers .entry))) ⌝ }
 {
     if heads.len() < 45 {
         return LintAnswer::Refused(Refusal::ListTooShort);
@@ -141,13 +181,13 @@ pub fn lint_numbers(image: &[u8], heads: &mut [u8], numbers: &mut [u32]) -> Lint
     if numbers.len() < 45 {
         return LintAnswer::Refused(Refusal::ListTooShort);
     }
-    LintAnswer::Listed(run_rules(image, heads, numbers))
+    LintAnswer::Listed(run_rules(image, edition, heads, numbers))
 }
 
 // Every rule, in document 01's order. A rule on a record is silent where its decoder refused.
-fn run_rules(image: &[u8], heads: &mut [u8], numbers: &mut [u32]) -> LintRecords
+fn run_rules(image: &[u8], edition: Edition, heads: &mut [u8], numbers: &mut [u32]) -> LintRecords
     requires { ⌜ (45 ≤ length (now heads)) × (45 ≤ length (now numbers)) ⌝ }
-    ensures { λ r. ⌜ (listingSaid r ≡ listingOf (now (image .entry))) × (now (heads .exit) ≡ laid (flat smallOf (findingsOf (now (image .entry)))) (now (heads .entry))) × (now (numbers .exit) ≡ laid (flat numbersOf (findingsOf (now (image .entry)))) (now (numbers .entry))) ⌝ }
+    ensures { λ r. ⌜ (listingSaid r ≡ listingOf edition (now (image .entry))) × (now (heads .exit) ≡ laid (flat smallOf (findingsOf edition (now (image .entry)))) (now (heads .entry))) × (now (numbers .exit) ≡ laid (flat numbersOf (findingsOf edition (now (image .entry)))) (now (numbers .entry))) ⌝ }
 {
     let mut n = check_reserved_regions(image, heads, numbers);
     let identity = decoders::identity::decode_identity_and_base(image);
@@ -159,7 +199,7 @@ fn run_rules(image: &[u8], heads: &mut [u8], numbers: &mut [u32]) -> LintRecords
     }
     let timings = decoders::timing::decode_timings(image);
     if let TimingsAnswer::Decoded(t) = timings {
-        n = check_base_timings(t, heads, numbers, n);
+        n = check_base_timings(t, edition, heads, numbers, n);
     }
     LintRecords {
         identity,
@@ -169,11 +209,11 @@ fn run_rules(image: &[u8], heads: &mut [u8], numbers: &mut [u32]) -> LintRecords
 }
 
 // Lint an image into a lent list of at least fifteen places: the first places hold the findings, the others stay.
-pub fn lint(image: &[u8], list: &mut [Finding]) -> LintAnswer
-    ensures { λ r. ⌜ (lintAnswerSaid r ≡ lintAnswerOf (now (image .entry)) (now (list .entry))) × (now (list .exit) ≡ listed 15 (findingsOf (now (image .entry))) (now (list .entry))) ⌝ }
+pub fn lint(image: &[u8], edition: Edition, list: &mut [Finding]) -> LintAnswer
+    ensures { λ r. ⌜ (lintAnswerSaid r ≡ lintAnswerOf edition (now (image .entry)) (now (list .entry))) × (now (list .exit) ≡ listed 15 (findingsOf edition (now (image .entry))) (now (list .entry))) ⌝ }
 {
+    let linted = lint_image(image, edition);
     let len = list.len();
-    let linted = lint_image(image);
     findings::fill(list, 15, linted.findings);
     lint_reply(len, linted)
 }
@@ -218,11 +258,11 @@ fn check_device_count(bus_width_bits: u16, io_width_bits: u16) -> Found
 }
 
 // The rules that apply to a rated profile, into a lent list of at least five places.
-pub fn check_rated_profile(r: RatedTimings, list: &mut [Finding]) -> RatedAnswer
-    ensures { λ a. ⌜ (ratedSaid a ≡ ratedOf r (now (list .entry))) × (now (list .exit) ≡ listed 5 (ratedFindings r) (now (list .entry))) ⌝ }
+pub fn check_rated_profile(r: RatedTimings, edition: Edition, list: &mut [Finding]) -> RatedAnswer
+    ensures { λ a. ⌜ (ratedSaid a ≡ ratedOf edition r (now (list .entry))) × (now (list .exit) ≡ listed 5 (ratedFindings edition r) (now (list .entry))) ⌝ }
 {
+    let found = rated_findings(r, edition);
     let len = list.len();
-    let found = rated_findings(r);
     findings::fill(list, 5, found);
     rated_reply(len, found.count)
 }
@@ -239,8 +279,8 @@ fn rated_reply(len: usize, count: usize) -> RatedAnswer
 }
 
 // The findings of a rated profile by value, at most five.
-pub fn rated_findings(r: RatedTimings) -> Findings
-    ensures { λ f. ⌜ f ≡ holding (ratedFindings r) ⌝ }
+pub fn rated_findings(r: RatedTimings, edition: Edition) -> Findings
+    ensures { λ f. ⌜ f ≡ holding (ratedFindings edition r) ⌝ }
 {
     let mut heads = [0u8; 45];
     let mut numbers = [0u32; 45];
@@ -274,7 +314,7 @@ pub fn rated_findings(r: RatedTimings) -> Findings
         &mut heads,
         &mut numbers,
         n,
-        check_standard_rate(r.data_rate_mt_s),
+        check_standard_rate(r.data_rate_mt_s, edition),
     );
     records(&heads, &numbers, n)
 }

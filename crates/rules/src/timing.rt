@@ -5,6 +5,7 @@ ghost use lib.ListN.{length};
 ghost use Rattle.rules.specs.Rules.{trcIdentity, ordering, supportedIn, casLatency, clockMultiple, onLadder, standardRate, timingRules, each};
 ghost use Rattle.rules.specs.Gathering.{lanes, noteAll};
 use crate::ClockTimingParam;
+use crate::Edition;
 use crate::SupportedSet;
 use crate::TimingOrder;
 use crate::gather::note;
@@ -22,12 +23,13 @@ use findings::Found;
 // Every rule on the base timings, in order.
 pub(crate) fn check_base_timings(
     t: Timings,
+    edition: Edition,
     heads: &mut [u8],
     numbers: &mut [u32],
     count: usize,
 ) -> usize
     requires { ⌜ (45 ≤ length (now heads)) × (45 ≤ length (now numbers)) ⌝ }
-    ensures { λ r. ⌜ lanes (now (heads .exit)) (now (numbers .exit)) r ≡ noteAll (lanes (now (heads .entry)) (now (numbers .entry)) count) (each timingRules t) ⌝ }
+    ensures { λ r. ⌜ lanes (now (heads .exit)) (now (numbers .exit)) r ≡ noteAll (lanes (now (heads .entry)) (now (numbers .entry)) count) (each (timingRules edition) t) ⌝ }
 {
     let tck = t.tckavg_min;
     let mut n = count;
@@ -63,7 +65,7 @@ pub(crate) fn check_base_timings(
         heads,
         numbers,
         n,
-        check_standard_rate(t.base_data_rate_mt_s()),
+        check_standard_rate(t.base_data_rate_mt_s(), edition),
     )
 }
 
@@ -144,27 +146,27 @@ pub(crate) fn check_clock_multiple(
     Found::One(non_integer_clock_timing(param, value.0, tck_ps))
 }
 
-// The data rate must be on the ladder; a rate of 0 is silent.
-pub(crate) fn check_standard_rate(data_rate_mt_s: u32) -> Found
-    ensures { λ r. ⌜ r ≡ standardRate «data_rate_mt_s» ⌝ }
+// The data rate must be on the edition's ladder; a rate of 0 is silent.
+pub(crate) fn check_standard_rate(data_rate_mt_s: u32, edition: Edition) -> Found
+    ensures { λ r. ⌜ r ≡ standardRate edition «data_rate_mt_s» ⌝ }
 {
     if data_rate_mt_s == 0 {
         return Found::Nothing;
     }
-    if is_standard(data_rate_mt_s) {
+    if is_standard(data_rate_mt_s, edition) {
         return Found::Nothing;
     }
     Found::One(non_standard_data_rate(data_rate_mt_s))
 }
 
-// On the ladder: a multiple of 400 from 3200 to 8800.
-fn is_standard(rate: u32) -> bool
-    ensures { λ r. ⌜ r ≡ onLadder rate ⌝ }
+// On the ladder: a multiple of 400 from 3200 to its end.
+fn is_standard(rate: u32, edition: Edition) -> bool
+    ensures { λ r. ⌜ r ≡ onLadder edition rate ⌝ }
 {
     if rate < 3200 {
         return false;
     }
-    if 8800 < rate {
+    if edition.top() < rate {
         return false;
     }
     rate % 400 == 0

@@ -1,4 +1,4 @@
-// The report program: an image on standard input, its listing on standard output, as document 01's "Printed listing" has it.
+// The report program: an image on standard input, its listing on standard output, as document 01's "Printed listing" has it, under edition 2.
 // It asks the linter once and only spells what it answers.
 use decoders::identity::IdentityAnswer;
 use decoders::timing::TimingsAnswer;
@@ -11,6 +11,7 @@ use printing::number;
 use printing::refused;
 use printing::text;
 use reading::Refusal;
+use rules::Edition;
 
 // How a decoder's line ends.
 fn refused_line(why: Refusal) {
@@ -88,7 +89,7 @@ fn main() {
         text(b"refused 6\n");
         return;
     }
-    let linted = rules::lint_image(&buffer[..got]);
+    let linted = rules::lint_image(&buffer[..got], Edition::Second);
     text(b"bytes");
     number(got);
     text(b"\nidentity");

@@ -6,10 +6,10 @@ use Rattle.feeding.proofs.cuts.Statement.{statement}
 use Rattle.feeding.proofs.cuts.Tie as tie
 
 abbrev Inv-loop : tie.InvT-loop
-Inv-loop image answers equal₀ cut₀ equal cut = cut ≤ length image + 1
+Inv-loop image edition answers equal₀ cut₀ equal cut = cut ≤ length image + 1
 
 abbrev μ-loop : tie.MeasureT-loop
-μ-loop image answers equal₀ cut₀ equal cut = length image + 1 - cut
+μ-loop image edition answers equal₀ cut₀ equal cut = length image + 1 - cut
 
 pub cuts-spec : {M : Type 1} → statement M
 cuts-spec =
@@ -17,6 +17,7 @@ cuts-spec =
     (tie.spec
     Inv-loop
     μ-loop
+    (λ c κs. search needs)
     (λ c. search needs)
     (λ c κs. search needs)
     (λ c. search needs)

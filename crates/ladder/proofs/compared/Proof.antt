@@ -6,10 +6,10 @@ use Rattle.ladder.proofs.compared.Statement.{statement}
 use Rattle.ladder.proofs.compared.Tie as tie
 
 abbrev Inv-loop : tie.InvT-loop
-Inv-loop first listed₀ found₀ differ₀ i₀ listed found differ i = (i ≤ 20001) × (listed ≤ i) × (found ≤ i) × (differ ≤ i)
+Inv-loop first edition listed₀ found₀ differ₀ i₀ listed found differ i = (i ≤ 20001) × (listed ≤ i) × (found ≤ i) × (differ ≤ i)
 
 abbrev μ-loop : tie.MeasureT-loop
-μ-loop first listed₀ found₀ differ₀ i₀ listed found differ i = 20001 - i
+μ-loop first edition listed₀ found₀ differ₀ i₀ listed found differ i = 20001 - i
 
 pub compared-spec : {M : Type 1} → statement M
 compared-spec =

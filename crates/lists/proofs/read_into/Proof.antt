@@ -6,7 +6,7 @@ use lib.ListN.{length}
 use denote.Struct.Laws as LL
 use Rattle.reading.specs.Said.{Said}
 use Rattle.findings.proofs.Walked.{to-field}
-use Rattle.rules.proofs.Listed.{of-struct, of-enum}
+use Rattle.findings.proofs.Listed.{of-struct, of-enum}
 use Rattle.report.specs.Read.{Counted, readSaid, readOf, readAfter}
 use Rattle.report.proofs.ReadAnswer as RA
 use Rattle.report.proofs.ReadAnswer.Laws as RA′

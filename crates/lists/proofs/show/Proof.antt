@@ -5,10 +5,10 @@ use Rattle.lists.proofs.show.Statement.{statement}
 use Rattle.lists.proofs.show.Tie as tie
 
 abbrev Inv-loop : tie.InvT-loop
-Inv-loop count list i₀ t7 t8 i = i ≤ 17
+Inv-loop count list i₀ i = i ≤ 17
 
 abbrev μ-loop : tie.MeasureT-loop
-μ-loop count list i₀ t7 t8 i = 17 - i
+μ-loop count list i₀ i = 17 - i
 
 pub show-spec : {M : Type 1} → statement M
 show-spec =
@@ -18,22 +18,6 @@ show-spec =
     μ-loop
     (λ c. search needs)
     (λ c. search needs)
-    (λ c. search needs)
-    (λ c. search needs)
-    (λ c κs. search needs)
-    (λ c. search needs)
-    (λ c κs. search needs)
-    (λ c κs. search needs)
-    (λ c. search needs)
-    (λ c κs. search needs)
-    (λ c. search needs)
-    (λ c κs. search needs)
-    (λ c. search needs)
-    (λ c κs. search needs)
-    (λ c. search needs)
-    (λ c κs. search needs)
-    (λ c. search needs)
-    (λ c κs. search needs)
     (λ c. search needs)
     (λ c κs. search needs)
     (λ c. search needs)

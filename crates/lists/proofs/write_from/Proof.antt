@@ -18,7 +18,7 @@ use borrow.Table.Elements.{length-take-le}
 use Rattle.findings.proofs.Walk.{URA, fullShare, named, erased, imm, w8, w64, tyRef, Val, vint, SProp, id⊢, GName, fat, flft, Memory, Routine, Heap, WpFn, Tables, Atoms, Fun, toks, givenOf, Given, ‵, raw, _⊛_, some, later, _$_, _∵_, !, qed, move, keep, use1, split, join, pick, drop, rewrite, fsplit, fjoin, feqI, feqL, suffices, frame, await, done, look, init, forget, stop, hop, fld, from, load, of-opd, addr, and-then, no-more, assigns, land, returns, enter, alloc1, alloc0, params1, pass1, pass0, free1, free0, agg, whole, sub, look-in, fmOf, owns, uint-vals, uint-tells, uint-lawful, u8, usize, now, pointee, sliceTy, sliceVal, MutSlice, ShrSlice, slice-vals, mut-slice-tells, heard, nothing, plain, yes, Triple, says, Stays, stay-dropped, gave-slice, goes-dropped, goes-gave-slice, Walks, ends-at, walked}
 use Rattle.findings.specs.declared.Finding.{Finding}
 use Rattle.findings.proofs.Walked.{R, AR, array-val, typed-array}
-use Rattle.rules.proofs.Listed.{Datum, of-enum, asks, Met, linked, cites, meets}
+use Rattle.findings.proofs.Listed.{Datum, of-enum, asks, Met, linked, cites, meets}
 use Rattle.report.specs.Write.{writeSaid, writeOf, writtenOver}
 use Rattle.report.proofs.WriteAnswer as WA
 use Rattle.report.proofs.WriteAnswer.Laws as WA′

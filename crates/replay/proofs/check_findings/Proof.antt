@@ -3,6 +3,7 @@ use mathlib.Core.Path.{_≡_, ap, _∙_}
 use borrow.Author.Needs.{needs}
 use Rattle.reading.specs.View.{view}
 use Rattle.findings.specs.Hold.{holding}
+use Rattle.rules.specs.declared.Edition.the-variants.{Second}
 use Rattle.rules.specs.Lint.{Lint, findingsOf}
 use Rattle.rules.proofs.Never.{at-most-fifteen}
 use Rattle.replay.specs.Held.{heldAll}
@@ -20,5 +21,5 @@ check-findings-spec =
     let l = c .before .before .lint-image in
     let a = c .before .before .before .before .before .args in
     let s = a .image .now in
-    let e : l .result .findings ≡ holding (findingsOf s) = ap (λ (x : Lint). x .findings) (l .ensures) in
-    c .expect-findings .ensures (few-held (findingsOf s) e (at-most-fifteen s)) ∙ ap (heldAll (view (a .«record» .now)) (a .c)) (numbers-held (findingsOf s) e)))
+    let e : l .result .findings ≡ holding (findingsOf Second s) = ap (λ (x : Lint). x .findings) (l .ensures) in
+    c .expect-findings .ensures (few-held (findingsOf Second s) e (at-most-fifteen Second s)) ∙ ap (heldAll (view (a .«record» .now)) (a .c)) (numbers-held (findingsOf Second s) e)))

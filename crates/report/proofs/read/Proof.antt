@@ -9,7 +9,7 @@ use denote.Struct.Laws as LL
 use Rattle.findings.specs.Lent.{placesOf}
 use Rattle.findings.specs.declared.Finding.{Finding}
 use Rattle.findings.proofs.Laws.{over}
-use Rattle.rules.proofs.Listed.{of-struct, of-enum, at-field, Plan, by-bytes}
+use Rattle.findings.proofs.Listed.{of-struct, of-enum, at-field, Plan, by-bytes}
 use Rattle.report.specs.Read.{Read, readSaid, readingSaid, readingOf, readReplied, readOf, readAfter}
 use Rattle.report.specs.declared.Reading.{Reading}
 use Rattle.report.specs.declared.ReadAnswer.{ReadAnswer}

@@ -11,7 +11,7 @@ use Rattle.findings.proofs.Walked.{R}
 use Rattle.findings.proofs.load as load′
 use Rattle.findings.proofs.load.Symbol as load-def
 use Rattle.findings.proofs.load.Met as load-thm
-use Rattle.rules.proofs.Listed.{Datum, of-enum, of-findings, holds, asks, Met, linked, cites, meets}
+use Rattle.findings.proofs.Listed.{Datum, of-enum, of-findings, holds, asks, Met, linked, cites, meets}
 use Rattle.report.specs.Write.{writeSaid, foundOf, writtenOver}
 use Rattle.report.proofs.WriteAnswer as WA
 use Rattle.report.proofs.WriteAnswer.Laws as WA′

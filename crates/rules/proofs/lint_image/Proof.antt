@@ -16,12 +16,13 @@ returns : tie.Need-returns
 unfolding lanesHolding holding
 returns c =
     let e = c .before .before .before .before .before .run-rules .ensures in
-    let s = now (c .before .before .before .before .before .before .before .before .before .args .image) in
+    let a = c .before .before .before .before .before .before .before .before .before .args in
+    let s = now (a .image) in
     let n = ap (λ (l : Listing). l .count) (e .0) in
     λ i. record {
       identity = e .0 i .identity;
       timings = e .0 i .timings;
-      findings = (c .records .ensures ∙ ap recordsOf (λ j. lanes (e .1 j) (e .2 j) (n j)) ∙ records-held (fresh .heads) (fresh .numbers) (findingsOf s) (at-most-fifteen s)) i;
+      findings = (c .records .ensures ∙ ap recordsOf (λ j. lanes (e .1 j) (e .2 j) (n j)) ∙ records-held (fresh .heads) (fresh .numbers) (findingsOf (a .edition) s) (at-most-fifteen (a .edition) s)) i;
     }
 
 pub lint-image-spec : {M : Type 1} → statement M

@@ -18,9 +18,9 @@ returns c =
     let n3 = n4 .before .before .before .before .before .before in
     let n2 = n3 .before .before .before .before .before .before in
     let n1 = n2 .before .before .before .before .before .before in
-    let r = n1 .before .before .before .before .before .args .r in
+    let a = n1 .before .before .before .before .before .args in
     c .records .ensures
-    ∙ whole (each ratedRules r)
+    ∙ whole (each (ratedRules (a .edition)) (a .r))
     (note-on (n5 .note5 .ensures)
     (note-on (n4 .note4 .ensures)
     (note-on (n3 .note3 .ensures)
@@ -30,7 +30,7 @@ returns c =
     (n3 .before .check-clock-multiple .ensures))
     (n4 .before .check-clock-multiple2 .ensures))
     (n5 .before .check-standard-rate .ensures))
-    (omega (arith, at-most-five r))
+    (omega (arith, at-most-five (a .edition) (a .r)))
 
 pub rated-findings-spec : {M : Type 1} → statement M
 rated-findings-spec =

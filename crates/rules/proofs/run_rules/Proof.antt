@@ -16,6 +16,7 @@ use Rattle.decoders.specs.declared.timing.Timings.{Timings}
 use Rattle.decoders.specs.Answers.{identitySaid, timingsSaid}
 use Rattle.decoders.specs.Identity.{identityOf}
 use Rattle.decoders.specs.Timing.{timingsOf}
+use Rattle.rules.specs.declared.Edition.{Edition}
 use Rattle.rules.specs.Regions.{regionRules}
 use Rattle.rules.specs.Rules.{identityRules, timingRules, each}
 use Rattle.rules.specs.Lint.{onGiven, lintRules, lintAt, findingsOf, Listing, listingOf}
@@ -30,12 +31,15 @@ use Rattle.rules.proofs.run_rules.Tie as tie
 abbrev first : List ℕ → List Found
 first s = each regionRules (view s) ++ each (map onGiven identityRules) (identityOf s)
 
-abbrev all : List ℕ → List Found
-all s = first s ++ each (map onGiven timingRules) (timingsOf s)
+abbrev all : Edition → List ℕ → List Found
+all e s = first s ++ each (map onGiven (timingRules e)) (timingsOf s)
 
--- the image and the arrays that were lent
+-- the image, the edition and the arrays that were lent
 abbrev image : tie.At-match-came → List ℕ
 image m = now (m .before .before .before .before .before .before .before .before .before .before .before .before .args .image)
+
+abbrev edition : tie.At-match-came → Edition
+edition m = m .before .before .before .before .before .before .before .before .before .before .before .before .args .edition
 
 abbrev lent : tie.At-match-came → Lanes
 lent m = lanes (m .before .before .before .before .before .before .before .before .before .before .before .before .args .heads .now) (m .before .before .before .before .before .before .before .before .before .before .before .before .args .numbers .now) 0
@@ -57,18 +61,18 @@ told m = ⊎-elim (λ w. w .22 ∙ sym (w .1 .given .1)) (λ w. w .5) (m .match 
 
 -- once the timings' rules have noted too, where u is what the decoder said
 module _ (m : tie.At-match-came) {h n : List ℕ} {k : ℕ} {u : Said Timings} (says : u ≡ timingsOf (image m))
-    (notes : lanes h n k ≡ noteAll (lanes (m .match .heads) (m .match .numbers) (m .match .n)) (each (map onGiven timingRules) u)) where
-  timed : lanes h n k ≡ noteAll (lent m) (all (image m))
-  timed = row-on (lent m) (first (image m)) (ap (each (map onGiven timingRules)) says) (identified m) notes
+    (notes : lanes h n k ≡ noteAll (lanes (m .match .heads) (m .match .numbers) (m .match .n)) (each (map onGiven (timingRules (edition m))) u)) where
+  timed : lanes h n k ≡ noteAll (lent m) (all (edition m) (image m))
+  timed = row-on (lent m) (first (image m)) (ap (each (map onGiven (timingRules (edition m)))) says) (identified m) notes
 
   answered : (45 ≤ length (lent m .heads)) × (45 ≤ length (lent m .numbers))
-      → _≡_ {A = Listing} (record { identity = identitySaid (m .match .identity); timings = u; count = k }) (listingOf (image m))
-      × (h ≡ laid (flat smallOf (findingsOf (image m))) (lent m .heads))
-      × (n ≡ laid (flat numbersOf (findingsOf (image m))) (lent m .numbers))
+      → _≡_ {A = Listing} (record { identity = identitySaid (m .match .identity); timings = u; count = k }) (listingOf (edition m) (image m))
+      × (h ≡ laid (flat smallOf (findingsOf (edition m) (image m))) (lent m .heads))
+      × (n ≡ laid (flat numbersOf (findingsOf (edition m) (image m))) (lent m .numbers))
   unfolding lintAt identityOf timingsOf lanesHolding holding
   answered room =
-      let held : lanes h n k ≡ lanesHolding (lent m .heads) (lent m .numbers) (lintAt (view (image m))) =
-      all-held (lent m .heads) (lent m .numbers) (room .0) (room .1) (each lintRules (view (image m))) timed (fits (view (image m))) in (
+      let held : lanes h n k ≡ lanesHolding (lent m .heads) (lent m .numbers) (lintAt (edition m) (view (image m))) =
+      all-held (lent m .heads) (lent m .numbers) (room .0) (room .1) (each (lintRules (edition m)) (view (image m))) timed (fits (edition m) (view (image m))) in (
         (λ i. record {
           identity = (ap identitySaid (told m) ∙ m .before .decode-identity-and-base .ensures) i;
           timings = says i;

@@ -13,4 +13,4 @@ lint-image-spec =
     (λ c. search needs)
     (λ c κs. search needs)
     (λ c κs. search needs)
-    (λ c. c .lint-image .ensures ∙ ap lintOf (c .before .arrived .ensures)))
+    (λ c. c .lint-image .ensures ∙ ap (lintOf _) (c .before .arrived .ensures)))

@@ -52,7 +52,7 @@ returns c =
     (n4 .before .check-cas-latency .ensures))
     (n5 .before .check-clock-multiple .ensures))
     (n6 .before .check-clock-multiple2 .ensures))
-    (n7 .before .check-standard-rate .ensures ∙ ap standardRate (n7 .before .before .base-data-rate-mt-s .ensures))
+    (n7 .before .check-standard-rate .ensures ∙ ap (standardRate _) (n7 .before .before .base-data-rate-mt-s .ensures))
 
 pub check-base-timings-spec : {M : Type 1} → statement M
 check-base-timings-spec =

@@ -1,12 +1,14 @@
 -- What a function cites that puts findings into a lent list by three calls in a straight line: `let len = list.len(); let found = core(x);
--- findings::fill(list, N, found…); reply(len, found…)`. Its walk stands here, once, over a `Plan`, so that a caller says what it calls and promises.
+-- findings::fill(list, N, found…); reply(len, found…)`; or, where one value more is passed, an edition say, `let found = core(x, e); let len = list.len(); ..`.
+-- The walk of each form stands here, once, over a `Plan`, so that a caller says what it calls and promises.
 --     Plan                 the types, the two functions that are called beside `fill`, what each promises, and why the promise is kept
 --     by-value, by-bytes   the contract, from a plan and the two functions' theorems, where x is a value and where it is a `&[u8]`
+--     by-value₃, by-bytes₃ the same with one value more
 --     Datum, Part          a type of one machine value that owns only facts, and a part of what `core` found
 --     asks, holds, cites, meets    a call in a walk; what a value owns, for nothing; a callee's theorem, and the caller's own from its walk
--- Each caller cites:
---     check_rated_profile  Plan, of-findings, of-usize, of-enum, itself, count, filled-by; by-value, of-struct
---     lint                 linter, by-bytes.        a lint of a state by value    linter, by-value, of-struct
+-- Who cites what:
+--     check_rated_profile  Plan, of-findings, of-usize, of-enum, itself, count, filled-by; by-value₃, of-struct
+--     lint                 the plan of a linter (rules/proofs/Linter.antt), by-bytes₃.    a lint of a state by value    that plan, by-value, of-struct
 --     a report's read      Plan, of-struct, of-enum, at-field, filled-by; by-bytes
 --     a report's write     is a walk of its own, since it reads a list: asks, holds, of-findings, of-enum, Met, linked, cites, meets
 -- Assumes nothing.
@@ -25,28 +27,19 @@ use denote.Enum.Enum as ES
 use denote.Enum.Declared as ED
 use denote.Enum.Laws as EL
 use Rattle.reading.specs.Lent.{listed}
 use Rattle.findings.specs.Hold.{holding}
 use Rattle.findings.specs.Lent.{placesOf}
 use Rattle.findings.specs.declared.Finding.{Finding}
 use Rattle.findings.specs.declared.Findings.{Findings}
 use Rattle.findings.proofs.Finding.Laws as F′
 use Rattle.findings.proofs.Findings as FS
 use Rattle.findings.proofs.Findings.Laws as FS′
 use Rattle.findings.proofs.Laws.{over, filled}
 use Rattle.findings.proofs.Walked.{R, findings-is}
 use Rattle.findings.proofs.fill as fill′
 use Rattle.findings.proofs.fill.Symbol as fill-def
 use Rattle.findings.proofs.fill.Symbol.{name as #findings·fill}
 use Rattle.findings.proofs.fill.Met as fill-thm
-use Rattle.rules.specs.Lint.{Lint, lintOf, lintSaid, findingsOf, lintAnswerSaid, replied, lintAnswerOf}
-use Rattle.rules.specs.declared.Linted.{Linted}
-use Rattle.rules.specs.declared.LintAnswer.{LintAnswer}
-use Rattle.rules.proofs.Linted as LI
-use Rattle.rules.proofs.Linted.Laws as LI′
-use Rattle.rules.proofs.LintAnswer as LA
-use Rattle.rules.proofs.LintAnswer.Laws as LA′
-use Rattle.rules.proofs.Never.{at-most-fifteen}
-use Rattle.rules.proofs.lint_reply.Key.{name as #rules·lint-reply}
 
 -- ---- a call, in a walk
 module _ {M : Type 1} (𝓤 : URA M) (H : Heap 𝓤) (A : Atoms 𝓤) (T : Ended) (c : Clauses 𝓤 T) where
@@ -273,34 +266,71 @@ module _ {Y : Type 0} (p : Plan Y) where
         keep ! (6 ∷ 5 ∷ 3 ∷ 0 ∷ []) $
         ends r w₃ (zs .0) (subst (p .promises (see κs x) (now li) r) (sym (e₂ .1 ∙ ap (λ (m : ℕ). over m (p .findings .part f .items) (now li)) (e₂ .0))) (p .keeps (see κs x) (now li) f r e e₃)) l)))))))))))))))
 
+-- ---- the same where a value more is passed between x and the list, as an edition is: `let found = core(x, e); let len = list.len(); ..`
+abbrev pub code₃ : {Y : Type 0} → Plan Y → ℕ → Ty → Ty → Fn
+code₃ p n τ ε = record {
+  lifetimes = suc n;
+  outlives = [];
+  params = 3;
+  locals = local (p .answer .ty) valueLocal ∷ local τ valueLocal ∷ local ε valueLocal ∷ local (sliceTy (tyRef (named n) mut (pointee (R .written)))) valueLocal ∷ local (p .found .ty) valueLocal
+      ∷ local (tyInt w64) valueLocal ∷ local (tyInt w64) valueLocal ∷ local pointer valueLocal ∷ local (sliceTy pointer) valueLocal ∷ [];
+  body =
+      seq (call (p .core) (copy (place 1 []) ∷ copy (place 2 []) ∷ []) (place 4 []))
+      (seq (assign (place 5 []) (rvOpd (copy (place 3 (field 1 ∷ [])))))
+      (seq (assign (place 7 []) (addrOf (place 3 (field 0 ∷ deref F′.mir ∷ []))))
+      (seq (assign (place 8 []) (aggregate (copy (place 7 []) ∷ copy (place 3 (field 1 ∷ [])) ∷ [])))
+      (seq (call #findings·fill (copy (place 8 []) ∷ int w64 (p .need) ∷ copy (place 4 (p .findings .steps)) ∷ []) (place 6 []))
+      (seq (call (p .reply) (copy (place 5 []) ∷ copy (place 4 (p .hand .steps)) ∷ []) (place 0 [])) return)))));
+}
+
+module _ {Y : Type 0} (p : Plan Y) (E : Datum) where
+  abbrev pub Finds₃ : (n : ℕ) (s : Slot n) → ((κs : Lfts n) → s .row κs .Denot → E .row .Denot → Y) → Promise
+  Finds₃ n s see = record {
+    types = record { signature = record { lifetimes = n; outlives = []; params = s ∷ plain (λ _. E .row) ∷ []; result = plain (λ _. p .found .row) }; kept = (yes, (yes, tt)) };
+    fact-of = λ κs a f _. p .finds (see κs (a .0) (a .1 .0)) f;
+  }
+
+  module _ {M : Type 1} (𝓤 : URA M) (H : Heap 𝓤) (A : Atoms 𝓤) (W : Given 𝓤 H A) (𝓣 : Tables 𝓤 H) (n : ℕ) (s : Slot n) (see : (κs : Lfts n) → s .row κs .Denot → E .row .Denot → Y) (found : Triple 𝓤 (𝓣 .C (p .core)) (Promised 𝓤 H A (Finds₃ n s see)))
+      (filled : Triple 𝓤 (𝓣 .C #findings·fill) (Promised 𝓤 H A Filled)) (replied : Triple 𝓤 (𝓣 .C (p .reply)) (Promised 𝓤 H A (Replies p))) (κs : Lfts n) (qs : Shares n) (x : s .row κs .Denot) (v : Val) (τ : Ty) (y : E .row .Denot) (κ : Lft) (q : Share) (li : RefT (List Finding)) where
+    walk₃ : (post : Val → SProp 𝓤) → T (hasTy τ v) × WT v → T (hasTy (E .ty) (E .val y)) × WT (E .val y) → Room R (length (now li))
+        → ((r : p .answer .row .Denot) (w : Val) (zs : List Finding) → p .promises (see κs x y) (now li) r zs → length zs ≡ length (now li)
+        → Sq W (raw (toks 𝓤 A n κs qs) ∷ raw (toks 𝓤 A 1 (κ, tt) (q, tt)) ∷ ‵ (finally R (li .name) zs) ∷ ‵ (p .answer .row .own r (w ∷ [])) ∷ []) (prop (post w)))
+        → Sq W (raw (toks 𝓤 A n κs qs) ∷ ‵ (owns (s .row κs ∷ E .row ∷ []) (x, (y, tt)) (v ∷ [], (E .val y ∷ [], tt))) ∷ raw (toks 𝓤 A 1 (κ, tt) (q, tt)) ∷ ‵ (MutSlice (named n) κ R .own li (slice-vals li)) ∷ [])
+        (prop (WpFn 𝓤 H (𝓣 .C) (𝓣 .Λ) (code₃ p n τ (E .ty)) (v ∷ E .val y ∷ slice-vals li) post))
+    walk₃ post wt wt₂ space ends =
+        enter ! (𝓣 .C) (𝓣 .Λ) (code₃ p n τ (E .ty)) (v ∷ E .val y ∷ slice-vals li) post $
+        alloc1 ! (λ l₀. alloc1 ! (λ l₁. alloc1 ! (λ l₂. alloc1 ! (λ l₃. alloc1 ! (λ l₄. alloc1 ! (λ l₅. alloc1 ! (λ l₆. alloc1 ! (λ l₇. alloc1 ! (λ l₈. alloc0 ! $ params1 ! $
+        pass1 ! (init ! 14 refl wt) $ pass1 ! (init ! 12 refl wt₂) $ pass1 ! (init ! 10 refl (tt, (tt, (record { fits = space .0 }, tt)))) $ pass0 ! $
+        -- [_8; …; _0; …; κs; x and the value; κ; the list]
+        move ! (18 ∷ 19 ∷ []) $
+        asks ! (fmOf 𝓤 H (W .laws) 𝓣) (Finds₃ n s see .types) (clauses 𝓤 H A (Finds₃ n s see)) found ((κs, qs, tt, (x, (y, tt)), (v ∷ [], (E .val y ∷ [], tt))), tt) (id⊢ 𝓤 _) (and-then ! (load ! (from ! (stop !)) (look ! 15 refl)) (and-then ! (load ! (from ! (stop !)) (look ! 13 refl)) (no-more !))) (λ w f ws is. heard ! (p .finds (see κs x y) f) (λ e.
+        let told : w ∷ [] ≡ p .found .val f ∷ [] = p .found .tells f (w ∷ []) is in
+        let g : Is (p .found .row) f (p .found .val f ∷ []) = subst (Is (p .found .row) f) told is in
+        land ! (from ! (stop !)) (init ! 11 refl (p .found .typed 𝓤 H A W f w is)) $ drop ! $ drop ! $ rewrite ! 9 (λ (u : Val). ‵ (fat fullShare (p .found .ty) l₄ 0 u)) (ap only told) refl $
+        -- [κs; _8; …; _0; …; κ; the list]
+        assigns ! (of-opd ! (load ! (from ! (fld ! refl (stop !))) (look-in ! 11 (sub ! 1 refl (whole !))))) (from ! (stop !)) (init ! 7 refl (tt, record { fits = space .0 })) $
+        assigns ! (addr ! (from ! (fld ! refl (hop ! (look-in ! 11 (sub ! 0 refl (whole !))) (stop !))))) (from ! (stop !)) (init ! 3 refl (tt, tt)) $
+        assigns ! (agg ! (and-then ! (load ! (from ! (stop !)) (look ! 3 refl)) (and-then ! (load ! (from ! (fld ! refl (stop !))) (look-in ! 11 (sub ! 1 refl (whole !)))) (no-more !)))) (from ! (stop !)) (init ! 1 refl (tt, (tt, (record { fits = space .0 }, tt)))) $
+        nothing ! $ holds ! of-findings (p .findings .part f) (p .findings .is f g) $ fjoin ! $ holds ! of-usize (p .need) (refl, lit< (p .small)) $ fjoin ! $
+        move ! (21 ∷ 0 ∷ []) $ fjoin ! $ move ! (20 ∷ 0 ∷ 10 ∷ []) $
+        asks ! (fmOf 𝓤 H (W .laws) 𝓣) fill′.ended (clauses 𝓤 H A Filled) filled (((κ, tt), (q, tt), tt, (li, (p .need, (p .findings .part f, tt))), (slice-vals li, (vint w64 (p .need) ∷ [], (of-findings .val (p .findings .part f) ∷ [], tt)))), tt) (id⊢ 𝓤 _)
+        (and-then ! (load ! (from ! (stop !)) (look ! 3 refl)) (and-then ! (lit ! (p .small)) (and-then ! (p .findings .reads ! f) (no-more !)))) (λ w₂ n₂ zs is₂. heard ! ((n₂ ≡ placesOf (length (now li)) (p .need) (p .findings .part f .count)) × (zs .0 ≡ over n₂ (p .findings .part f .items) (now li))) (λ e₂.
+        land ! (from ! (stop !)) (init ! 9 refl (of-usize .typed 𝓤 H A W n₂ w₂ is₂)) $ drop ! $ fsplit ! $ fsplit ! $ move ! (1 ∷ []) $ feqL ! (λ l.
+        -- [the last list; …; κ; _4; κs; _8; …]
+        nothing ! $ holds ! (p .handed) (p .hand .part f) (p .hand .is f g) $ fjoin ! $ holds ! of-usize (length (now li)) (refl, space .0) $ fjoin ! $
+        use0 W (raw (emp 𝓤)) (id⊢ 𝓤 _) $ move ! (0 ∷ 1 ∷ 5 ∷ []) $
+        asks ! (fmOf 𝓤 H (W .laws) 𝓣) (Replies p .types) (clauses 𝓤 H A (Replies p)) replied ((tt, tt, tt, (length (now li), (p .hand .part f, tt)), (vint w64 (length (now li)) ∷ [], (p .handed .val (p .hand .part f) ∷ [], tt))), tt) (id⊢ 𝓤 _)
+        (and-then ! (load ! (from ! (stop !)) (look ! 12 refl)) (and-then ! (p .hand .reads ! f) (no-more !))) (λ w₃ r ws₃ is₃. heard ! (p .replies (length (now li)) (p .hand .part f) r) (λ e₃.
+        land ! (from ! (stop !)) (init ! 23 refl (p .answer .typed 𝓤 H A W r w₃ is₃)) $
+        returns ! (look ! 23 refl) $ forget ! 3 refl $ forget ! 8 refl $ forget ! 10 refl $ forget ! 12 refl $ forget ! 14 refl $ forget ! 17 refl $ forget ! 19 refl $ forget ! 21 refl $ forget ! 23 refl $
+        move ! (23 ∷ 24 ∷ 21 ∷ 22 ∷ 19 ∷ 20 ∷ 17 ∷ 18 ∷ 3 ∷ 16 ∷ 14 ∷ 15 ∷ 12 ∷ 13 ∷ 10 ∷ 11 ∷ 8 ∷ 9 ∷ []) $ free1 ! $ free1 ! $ free1 ! $ free1 ! $ free1 ! $ free1 ! $ free1 ! $ free1 ! $ free1 ! $ free0 ! $
+        keep ! (6 ∷ 5 ∷ 3 ∷ 0 ∷ []) $
+        ends r w₃ (zs .0) (subst (p .promises (see κs x y) (now li) r) (sym (e₂ .1 ∙ ap (λ (m : ℕ). over m (p .findings .part f .items) (now li)) (e₂ .0))) (p .keeps (see κs x y) (now li) f r e e₃)) l))))))))))))))))
+
 -- what `fill` leaves of an array that holds a list
 pub filled-by : {f : Findings} (l xs : List Finding) (need : ℕ) → f ≡ holding l → length l ≤ 15 → length l ≤ need → over (placesOf (length xs) need (f .count)) (f .items) xs ≡ listed need l xs
 unfolding holding
 filled-by l xs need e h k = rw e (filled l xs need h k)
-
--- ---- a linter: the first function lints the image that is in what is passed
-module _ {Y : Type 0} (image : Y → List ℕ) where
-  pub lints : (y : Y) (xs : List Finding) (l : Linted) (r : LintAnswer) → lintSaid l ≡ lintOf (image y) → lintAnswerSaid r ≡ replied (length xs) (lintSaid l)
-      → (lintAnswerSaid r ≡ lintAnswerOf (image y) xs) × (over (placesOf (length xs) 15 (l .findings .count)) (l .findings .items) xs ≡ listed 15 (findingsOf (image y)) xs)
-  unfolding lintAnswerOf
-  lints y xs l r e e₂ = (e₂ ∙ ap (replied (length xs)) e, filled-by (findingsOf (image y)) xs 15 (ap (λ (t : Lint). t .findings) e) (at-most-fifteen (image y)) (at-most-fifteen (image y)))
-
-  abbrev pub linter : Name → Plan Y
-  linter core = record {
-    found = of-struct LI.the-type LI′.the-laws LI′.the-plain;
-    handed = of-struct LI.the-type LI′.the-laws LI′.the-plain;
-    answer = of-enum LA.the-type LA′.the-laws LA′.the-plain tt;
-    findings = record { steps = field 2 ∷ []; part = λ l. l .findings; is = λ l is. LL.owed LI.the-type LI′.the-laws l _ is .1 .1 .0; reads = λ t l. at-field 2 t refl };
-    hand = itself;
-    core = core;
-    reply = #rules·lint-reply;
-    need = 15;
-    small = tt;
-    finds = λ y l. lintSaid l ≡ lintOf (image y);
-    replies = λ len l r. lintAnswerSaid r ≡ replied len (lintSaid l);
-    promises = λ y xs r zs. (lintAnswerSaid r ≡ lintAnswerOf (image y) xs) × (zs ≡ listed 15 (findingsOf (image y)) xs);
-    keeps = lints;
-  }
 
 -- ---- from the walk to the contract: of a function that takes a value, and of one that takes bytes
 abbrev bytes : Ty
@@ -319,6 +349,19 @@ abbrev pub Reading : Plan (List ℕ) → Promise
 Reading p = record {
   types = record { signature = record { lifetimes = 2; outlives = []; params = Bytes tt ∷ mutSliceOf (1 ∷ []) tt (plain (λ _. R)) ∷ []; result = plain (λ _. p .answer .row) }; kept = (yes, (yes, tt)) };
   fact-of = λ κs a r e. p .promises (now (a .0)) (now (a .1 .0)) r (now (e .1 .0));
+}
+
+-- with a value more, y is the pair
+abbrev pub Taking₃ : (X E : Datum) → Plan (X .row .Denot × E .row .Denot) → Promise
+Taking₃ X E p = record {
+  types = record { signature = record { lifetimes = 1; outlives = []; params = plain (λ _. X .row) ∷ plain (λ _. E .row) ∷ mutSliceOf (0 ∷ []) tt (plain (λ _. R)) ∷ []; result = plain (λ _. p .answer .row) }; kept = (yes, (yes, (yes, tt))) };
+  fact-of = λ κs a r e. p .promises (a .0, a .1 .0) (now (a .1 .1 .0)) r (now (e .1 .1 .0));
+}
+
+abbrev pub Reading₃ : (E : Datum) → Plan (List ℕ × E .row .Denot) → Promise
+Reading₃ E p = record {
+  types = record { signature = record { lifetimes = 2; outlives = []; params = Bytes tt ∷ plain (λ _. E .row) ∷ mutSliceOf (1 ∷ []) tt (plain (λ _. R)) ∷ []; result = plain (λ _. p .answer .row) }; kept = (yes, (yes, (yes, tt))) };
+  fact-of = λ κs a r e. p .promises (now (a .0), a .1 .0) (now (a .1 .1 .0)) r (now (e .1 .1 .0));
 }
 
 -- a value has no last value
@@ -378,3 +421,35 @@ module _ {M : Type 1} (𝓤 : URA M) (H : Heap 𝓤) (𝓜 : Model 𝓤 H) (𝓖
       (κs .0, tt) (qs .0, tt) (a .0) (only (slice-vals (a .0))) bytes (κs .1 .0) (qs .1 .0) (a .1 .0) _ (shr-slice-lawful 𝓤 H A given (named 0) (κs .0) u8 .typed (a .0) _ (are .0) .0) (are .1 .0 .0 .1) (λ r w zs e l.
       suffices ! _ (ends-at 𝓤 H A (Reading p .types) hs c given ((κs, qs, bounds, a, vs), g) w r (tt, (zs, tt)) (tt, (l, tt))) $ says ! e $
       use1 given (‵ (flft (κs .0) (qs .0)) ⊛ ‵ ftrue) (id⊢ 𝓤 _) $ split ! $ move ! (0 ∷ 2 ∷ []) $ join ! $ frame ! $ drop ! $ nothing ! $ move ! (1 ∷ 0 ∷ []) $ fjoin ! $ nothing ! $ fjoin ! $ done !))))
+
+  pub by-value₃ : (X E : Datum) (p : Plan (X .row .Denot × E .row .Denot)) → unchanged ≡ X .row .exit yes → unchanged ≡ E .row .exit yes → Runs 𝓤 H 𝓜 𝓡 γ k (code₃ p 0 (X .ty) (E .ty)) → γ #findings·fill ≡ fill-def.routine
+      → {r₁ : Routine} → γ (p .core) ≡ r₁ → Known (Finds₃ p E 0 (plain (λ _. X .row)) (λ _ x y. (x, y))) r₁
+      → {r₂ : Routine} → γ (p .reply) ≡ r₂ → Known (Replies p) r₂ → Known (Taking₃ X E p) (γ k)
+  by-value₃ X E p still still₂ closed e₀ e₁ t₁ e₂ t₂ =
+      let hs : Stays (Taking₃ X E p .types .signature .params) (Taking₃ X E p .types .kept) = (stay-dropped (plain (λ _. X .row)) yes, (stay-dropped (plain (λ _. E .row)) yes, (gave-slice (0 ∷ []) tt (plain (λ _. R)), tt))) in
+      let c : Clauses 𝓤 (Taking₃ X E p .types) = clauses 𝓤 H A (Taking₃ X E p) in
+      meets 𝓤 H 𝓜 𝓡 γ 𝓖 (Taking₃ X E p .types) c k (code₃ p 0 (X .ty) (E .ty)) closed hs (goes-dropped 𝓤 H A given 1 (plain (λ _. X .row)) yes (λ κs. silent still), (goes-dropped 𝓤 H A given 1 (plain (λ _. E .row)) yes (λ κs. silent still₂), (goes-gave-slice 𝓤 H A given 1 0 tt (plain (λ _. R)), tt)))
+      (walked 𝓤 H A (Taking₃ X E p .types) hs c (runs-as 𝓤 H 𝓜 𝓡 γ (code₃ p 0 (X .ty) (E .ty))) (λ κs. ((λ x. X .val x ∷ []), ((λ y. E .val y ∷ []), (slice-vals, tt)))) (λ κs. (X .tells, (E .tells, (mut-slice-tells (named 0) (κs .0) R, tt)))) (λ κs qs bounds a g are. via 𝓤 _ (fst∗ 𝓤 _ (emp 𝓤)) (
+      let vs : List Val × (List Val × (List Val × Unit {0})) = (X .val (a .0) ∷ [], (E .val (a .1 .0) ∷ [], (slice-vals (a .1 .1 .0), tt))) in
+      qed given (raw (toks 𝓤 A 1 κs qs) ∷ ‵ (owns (X .row ∷ E .row ∷ MutSlice (named 0) (κs .0) R ∷ []) a vs) ∷ []) ∵
+      move ! (1 ∷ []) $ fsplit ! $ move ! (1 ∷ []) $ fsplit ! $ move ! (1 ∷ []) $ fsplit ! $ move ! (2 ∷ 1 ∷ []) $ fjoin ! $ move ! (2 ∷ 0 ∷ []) $ fjoin ! $ use0 given (raw (emp 𝓤)) (id⊢ 𝓤 _) $ keep ! (0 ∷ 1 ∷ 3 ∷ 2 ∷ []) $
+      walk₃ p E 𝓤 H A given 𝓣 0 (plain (λ _. X .row)) (λ _ x y. (x, y)) (known (Finds₃ p E 0 (plain (λ _. X .row)) (λ _ x y. (x, y))) (p .core) e₁ t₁) (fills e₀) (known (Replies p) (p .reply) e₂ t₂)
+      tt tt (a .0) (X .val (a .0)) (X .ty) (a .1 .0) (κs .0) (qs .0) (a .1 .1 .0) _ (X .typed 𝓤 H A given (a .0) _ (are .0)) (E .typed 𝓤 H A given (a .1 .0) _ (are .1 .0)) (are .1 .1 .0 .0 .1) (λ r w zs e l.
+      suffices ! _ (ends-at 𝓤 H A (Taking₃ X E p .types) hs c given ((κs, qs, bounds, a, vs), g) w r (last-of still (a .0), (last-of still₂ (a .1 .0), (zs, tt))) (tt, (tt, (l, tt)))) $ says ! e $
+      drop ! $ frame ! $ nothing ! $ move ! (1 ∷ 0 ∷ []) $ fjoin ! $ nothing ! $ fjoin ! $ nothing ! $ fjoin ! $ done !))))
+
+  pub by-bytes₃ : (E : Datum) (p : Plan (List ℕ × E .row .Denot)) → unchanged ≡ E .row .exit yes → Runs 𝓤 H 𝓜 𝓡 γ k (code₃ p 1 bytes (E .ty)) → γ #findings·fill ≡ fill-def.routine
+      → {r₁ : Routine} → γ (p .core) ≡ r₁ → Known (Finds₃ p E 1 (Bytes tt) (λ _ x y. (now x, y))) r₁
+      → {r₂ : Routine} → γ (p .reply) ≡ r₂ → Known (Replies p) r₂ → Known (Reading₃ E p) (γ k)
+  by-bytes₃ E p still₂ closed e₀ e₁ t₁ e₂ t₂ =
+      let hs : Stays (Reading₃ E p .types .signature .params) (Reading₃ E p .types .kept) = (stay-dropped (Bytes tt) yes, (stay-dropped (plain (λ _. E .row)) yes, (gave-slice (1 ∷ []) tt (plain (λ _. R)), tt))) in
+      let c : Clauses 𝓤 (Reading₃ E p .types) = clauses 𝓤 H A (Reading₃ E p) in
+      meets 𝓤 H 𝓜 𝓡 γ 𝓖 (Reading₃ E p .types) c k (code₃ p 1 bytes (E .ty)) closed hs (goes-dropped 𝓤 H A given 2 (Bytes tt) yes (λ κs x l. refl), (goes-dropped 𝓤 H A given 2 (plain (λ _. E .row)) yes (λ κs. silent still₂), (goes-gave-slice 𝓤 H A given 2 1 tt (plain (λ _. R)), tt)))
+      (walked 𝓤 H A (Reading₃ E p .types) hs c (runs-as 𝓤 H 𝓜 𝓡 γ (code₃ p 1 bytes (E .ty))) (λ κs. (slice-vals, ((λ y. E .val y ∷ []), (slice-vals, tt)))) (λ κs. (shr-slice-tells (named 0) (κs .0) u8, (E .tells, (mut-slice-tells (named 1) (κs .1 .0) R, tt)))) (λ κs qs bounds a g are. via 𝓤 _ (fst∗ 𝓤 _ (emp 𝓤)) (
+      let vs : List Val × (List Val × (List Val × Unit {0})) = (slice-vals (a .0), (E .val (a .1 .0) ∷ [], (slice-vals (a .1 .1 .0), tt))) in
+      qed given ((‵ (flft (κs .0) (qs .0)) ⊛ raw (toks 𝓤 A 1 (κs .1) (qs .1))) ∷ ‵ (owns (ShrSlice (named 0) (κs .0) u8 ∷ E .row ∷ MutSlice (named 1) (κs .1 .0) R ∷ []) a vs) ∷ []) ∵
+      split ! $ nothing ! $ move ! (1 ∷ 0 ∷ []) $ join ! $ use1 given (raw (toks 𝓤 A 1 (κs .0, tt) (qs .0, tt))) (id⊢ 𝓤 _) $ move ! (2 ∷ []) $ fsplit ! $ move ! (1 ∷ []) $ fsplit ! $ move ! (1 ∷ []) $ fsplit ! $ move ! (2 ∷ 1 ∷ []) $ fjoin ! $ move ! (2 ∷ 0 ∷ []) $ fjoin ! $ keep ! (2 ∷ 0 ∷ 3 ∷ 1 ∷ []) $
+      walk₃ p E 𝓤 H A given 𝓣 1 (Bytes tt) (λ _ x y. (now x, y)) (known (Finds₃ p E 1 (Bytes tt) (λ _ x y. (now x, y))) (p .core) e₁ t₁) (fills e₀) (known (Replies p) (p .reply) e₂ t₂)
+      (κs .0, tt) (qs .0, tt) (a .0) (only (slice-vals (a .0))) bytes (a .1 .0) (κs .1 .0) (qs .1 .0) (a .1 .1 .0) _ (shr-slice-lawful 𝓤 H A given (named 0) (κs .0) u8 .typed (a .0) _ (are .0) .0) (E .typed 𝓤 H A given (a .1 .0) _ (are .1 .0)) (are .1 .1 .0 .0 .1) (λ r w zs e l.
+      suffices ! _ (ends-at 𝓤 H A (Reading₃ E p .types) hs c given ((κs, qs, bounds, a, vs), g) w r (tt, (last-of still₂ (a .1 .0), (zs, tt))) (tt, (tt, (l, tt)))) $ says ! e $
+      use1 given (‵ (flft (κs .0) (qs .0)) ⊛ ‵ ftrue) (id⊢ 𝓤 _) $ split ! $ move ! (0 ∷ 2 ∷ []) $ join ! $ frame ! $ drop ! $ nothing ! $ move ! (1 ∷ 0 ∷ []) $ fjoin ! $ nothing ! $ fjoin ! $ nothing ! $ fjoin ! $ done !))))
