@@ -50,6 +50,9 @@ const char *explain_refusal(int32_t answer, int needs, char text[SENTENCE_MAX]) 
       plain = "Bytes 515 (year) and 516 (week) are no date: each must be two decimal digits, and the week 1 to 53. Read the module again; "
               "if they come the same, print no label. Without --strict-date they are told as they are.";
       break;
+    case ROOSTCORD_UNKNOWN_EDITION:
+      plain = "The library was asked for an edition of the ladder that is neither 1 nor 2, which is a fault of this program: report it.";
+      break;
     case ROOSTCORD_NEITHER_SOUND:
       plain = "A sound read is whole, has 512 bytes or more, and its bytes 0 to 509 give the CRC that stands at 510 and 511; neither is. "
               "Reseat the module, and read it twice again; if neither comes sound, do not certify it.";
@@ -89,6 +92,17 @@ static void explain_latency(uint32_t code, unsigned long first, unsigned long se
              "Bytes 30 and 31 (tAA) by bytes 20 and 21 (tCKmin) make CAS latency %lu, which bytes 24 to 28 do not list. " AGAIN, first);
 }
 
+/* Code 7: the data rate. Where the edition is not known the ends of both ladders are named. */
+static void explain_rate(uint32_t edition, unsigned long rate, char *text) {
+  const char *end = "the end of its ladder, which is 6400 under edition 1 and 8800 under edition 2";
+  if (edition == ROOSTCORD_EDITION_1) end = "6400";
+  if (edition == ROOSTCORD_EDITION_2) end = "8800";
+  snprintf(text, SENTENCE_MAX,
+           "Bytes 20 and 21 (tCKmin) make %lu MT/s, which is no multiple of 400 from 3200 to %s: certify it as what it says, or ask the "
+           "maker.",
+           rate, end);
+}
+
 /* Codes 1 and 9: the geometry. */
 static void explain_geometry(uint32_t code, uint32_t sub, unsigned long first, unsigned long second, char *text) {
   if (code == ROOSTCORD_CODE_NON_INTEGER_DEVICE_COUNT)
@@ -100,7 +114,7 @@ static void explain_geometry(uint32_t code, uint32_t sub, unsigned long first, u
              first);
 }
 
-const char *explain_finding(const uint32_t finding[ROOSTCORD_FINDING_COUNT], char text[SENTENCE_MAX]) {
+const char *explain_finding(const uint32_t finding[ROOSTCORD_FINDING_COUNT], uint32_t edition, char text[SENTENCE_MAX]) {
   uint32_t code = finding[ROOSTCORD_FINDING_CODE], sub = finding[ROOSTCORD_FINDING_SUB];
   unsigned long first = finding[ROOSTCORD_FINDING_FIRST], second = finding[ROOSTCORD_FINDING_SECOND],
                 third = finding[ROOSTCORD_FINDING_THIRD];
@@ -114,12 +128,7 @@ const char *explain_finding(const uint32_t finding[ROOSTCORD_FINDING_COUNT], cha
       break;
     case ROOSTCORD_CODE_NON_INTEGER_CAS_LATENCY:
     case ROOSTCORD_CODE_CAS_LATENCY_NOT_SUPPORTED: explain_latency(code, first, second, text); break;
-    case ROOSTCORD_CODE_NON_STANDARD_DATA_RATE:
-      snprintf(text, SENTENCE_MAX,
-               "Bytes 20 and 21 (tCKmin) make %lu MT/s, which is no multiple of 400 from 3200 to 8800: certify it as what it says, or ask "
-               "the maker.",
-               first);
-      break;
+    case ROOSTCORD_CODE_NON_STANDARD_DATA_RATE: explain_rate(edition, first, text); break;
     case ROOSTCORD_CODE_RESERVED_BYTES_NONZERO:
       snprintf(
           text, SENTENCE_MAX,

@@ -199,7 +199,7 @@ static void put_finding(const uint32_t *f, const struct options *options) {
   for (int k = 0; k < RULE_NUMBERS && rule->numbers[k]; k++)
     printf("%s\"%s\":%lu", k > 0 ? "," : "", rule->numbers[k], (unsigned long)f[ROOSTCORD_FINDING_FIRST + k]);
   putchar('}');
-  if (options->explain) put_text("explanation", explain_finding(f, text));
+  if (options->explain) put_text("explanation", explain_finding(f, options->edition, text));
   putchar('}');
 }
 
@@ -220,6 +220,7 @@ void json_image(const struct subject *subject, const struct records *r, const st
   begin(subject);
   put_reads(subject, options);
   put_number("bytes", (unsigned long long)r->bytes);
+  put_number("edition", options->edition);
   if (options->bursts) put_number("refused_bursts", subject->refused_bursts);
   put_identity(r, options);
   put_timings(r, options);

@@ -14,7 +14,7 @@ struct subject {
   int32_t sound;                       /* which of them is, as sound_read answers */
 };
 
-/* An image, with all of its records; the base CRC unless --no-crc is given, and the label where it is asked for. */
+/* An image, with its edition and all of its records; the base CRC unless --no-crc is given, and the label where it is asked for. */
 void json_image(const struct subject *subject, const struct records *records, const struct options *options);
 
 /* An image that the library did not take, or two reads of which neither is sound. */

@@ -82,6 +82,7 @@ static const char *const refusals[] = {
     [ROOSTCORD_REPORT_VERSION] = "report-version",
     [ROOSTCORD_REPORT_MALFORMED] = "report-malformed",
     [ROOSTCORD_WRONG_DATE] = "wrong-date",
+    [ROOSTCORD_UNKNOWN_EDITION] = "unknown-edition",
     [ROOSTCORD_NEITHER_SOUND] = "neither-sound",
 };
 

@@ -10,15 +10,16 @@
 enum { BURST = 16 }; /* where --burst is not given */
 
 static const char usage[] =
-    "usage: station [OPTIONS] [--burst N] IMAGE...\n"
-    "       station [OPTIONS] --bursts LOG...\n"
-    "       station [OPTIONS] --two-reads FIRST SECOND\n"
+    "usage: station [OPTIONS] [--edition N] [--burst N] IMAGE...\n"
+    "       station [OPTIONS] [--edition N] --bursts LOG...\n"
+    "       station [OPTIONS] [--edition N] --two-reads FIRST SECOND\n"
     "       station [OPTIONS] --read-report FILE\n"
     "\n"
     "Lints SPD images of DDR5 modules. IMAGE is a file (a Linux eeprom file will do), or - for standard input.\n"
     "\n"
     "  -b, --burst N           read and feed N bytes at a time, 1 to 2048 (16 if not given)\n"
     "  -l, --bursts            read logs of the bursts of an image, instead of images; - is standard input here too\n"
+    "  -E, --edition N         lint under edition N of the ladder of data rates: 1, 3200 to 6400, or 2, 3200 to 8800 (2 if not given)\n"
     "  -s, --strict            let every finding count, not errors alone\n"
     "  -i, --identity          print the identity as well\n"
     "  -t, --timings           print the timings and the clock table as well\n"
@@ -58,6 +59,9 @@ static const char forms[] =
     "The base CRC is checked on the bytes that the library took, and told in a line: crc ok, crc wrong, or crc refused where the image has\n"
     "fewer than 512 bytes. Of two reads the first line tells which is sound; where neither is, it is refused 21, and nothing is linted.\n"
     "\n"
+    "The ladder is in steps of 400 MT/s. Its editions differ in the finding non-standard-data-rate alone, which edition 1 has for 6800 to\n"
+    "8800 too. With --edition 1 the line edition 1 stands behind that of the bytes; under edition 2 there is no such line.\n"
+    "\n"
     "Status: 0 nothing of severity error (with --strict: no finding at all); 1 findings of that kind, or a base CRC that is wrong; 2 an\n"
     "image was refused, its base CRC or a label that was asked for, or something could not be read or written; 3 the words of the command\n"
     "line make no sense. With several images the largest counts.\n";
@@ -67,10 +71,10 @@ static const struct option longs[] = {
     {"identity", no_argument, NULL, 'i'},    {"timings", no_argument, NULL, 't'},      {"explain", no_argument, NULL, 'e'},
     {"json", no_argument, NULL, 'j'},        {"report", required_argument, NULL, 'o'}, {"read-report", required_argument, NULL, 'R'},
     {"label", no_argument, NULL, 'm'},       {"strict-date", no_argument, NULL, 'd'},  {"version", no_argument, NULL, 'V'},
-    {"no-crc", no_argument, NULL, 'n'},      {"two-reads", no_argument, NULL, '2'},    {"help", no_argument, NULL, 'h'},
-    {NULL, 0, NULL, 0}};
+    {"no-crc", no_argument, NULL, 'n'},      {"two-reads", no_argument, NULL, '2'},    {"edition", required_argument, NULL, 'E'},
+    {"help", no_argument, NULL, 'h'},        {NULL, 0, NULL, 0}};
 
-static const char shorts[] = ":b:lsitmdn2ejo:R:Vh"; /* the colon in front: a missing value is told from an unknown option */
+static const char shorts[] = ":b:lE:sitmdn2ejo:R:Vh"; /* the colon in front: a missing value is told from an unknown option */
 
 static bool misused(const char *what, const char *word) {
   fprintf(stderr, "station: %s%s (station --help says how)\n", what, word);
@@ -92,6 +96,12 @@ static size_t burst_length(const char *word) {
   return n > ROOSTCORD_IMAGE_MAX ? 0 : (size_t)n;
 }
 
+/* An edition of the ladder, a digit alone; or 0. */
+static uint32_t edition_numbered(const char *word) {
+  if (strcmp(word, "1") == 0) return ROOSTCORD_EDITION_1;
+  return strcmp(word, "2") == 0 ? ROOSTCORD_EDITION_2 : 0;
+}
+
 /* A file's name behind an option, which is given once. */
 static bool take_name(const char **name, const char *option) {
   if (*name) return misused("given twice: ", option);
@@ -106,6 +116,9 @@ static bool take_one(int letter, const char *word, struct options *options) {
       options->burst = burst_length(optarg);
       return options->burst > 0 || misused("--burst wants a number from 1 to 2048, not ", optarg);
     case 'l': options->bursts = true; return true;
+    case 'E':
+      options->edition = edition_numbered(optarg);
+      return options->edition > 0 || misused("--edition wants 1 or 2, not ", optarg);
     case 's': options->strict = true; return true;
     case 'i': options->identity = true; return true;
     case 't': options->timings = true; return true;
@@ -134,10 +147,10 @@ static bool two_agree(const struct options *o) {
 /* Whether the options go together. */
 static bool agree(const struct options *o) {
   if (o->bursts && o->burst) return misused("the bursts of a log have lengths of their own, so --burst does not go with --bursts", "");
-  if (o->read_report &&
-      (o->burst || o->bursts || o->identity || o->timings || o->label || o->strict_date || o->report || o->no_crc || o->two_reads))
-    return misused("a stored report has no bursts, reads, identity, timings, CRC or label: only --strict, --explain and --json go with "
-                   "--read-report",
+  if (o->read_report && (o->burst || o->bursts || o->edition || o->identity || o->timings || o->label || o->strict_date || o->report ||
+                         o->no_crc || o->two_reads))
+    return misused("a stored report was linted already, and has no bursts, reads, identity, timings, CRC, label or edition: only --strict, "
+                   "--explain and --json go with --read-report",
                    "");
   if (o->strict_date && !o->label) return misused("--strict-date is about the date of the label: give --label as well", "");
   if (o->read_report && o->count > 0) return misused("no image goes with --read-report, but there is ", o->names[0]);
@@ -174,5 +187,6 @@ bool take_options(int argc, char **argv, struct options *options, enum status *s
   options->count = argc - optind;
   if (!agree(options)) return false;
   if (!options->burst) options->burst = BURST;
+  if (!options->edition && !options->read_report) options->edition = ROOSTCORD_EDITION_2;
   return true;
 }

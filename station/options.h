@@ -11,6 +11,7 @@ struct options {
   bool strict_date; /* a date of the label that is none is refused */
   bool no_crc;      /* the base CRC is neither told nor counted */
   bool two_reads;   /* the two names are those of two reads of one module */
+  uint32_t edition; /* of the ladder, ROOSTCORD_EDITION_..; 0 with read_report, since a report does not tell its own */
   const char *report;      /* the file that a report is written to, or NULL */
   const char *read_report; /* the stored report to list, or NULL */
   char **names;            /* of images, or of logs */

@@ -56,7 +56,7 @@ static void print_findings(const struct findings *findings, const struct options
     if (f[ROOSTCORD_FINDING_SUB] != ROOSTCORD_SUB_NONE) printf(" %lu", (unsigned long)f[ROOSTCORD_FINDING_SUB]);
     for (int k = 0; k < RULE_NUMBERS && rule->numbers[k]; k++) printf(" %lu", (unsigned long)f[ROOSTCORD_FINDING_FIRST + k]);
     printf("\n");
-    if (options->explain) printf("  %s\n", explain_finding(f, text));
+    if (options->explain) printf("  %s\n", explain_finding(f, options->edition, text));
   }
   printf("findings %lu\n", (unsigned long)count_findings(findings));
 }
@@ -117,6 +117,7 @@ static void print_label(const struct records *r, const struct options *options) 
 
 void print_image(const struct records *r, const struct options *options) {
   printf("bytes %ld\n", (long)r->bytes);
+  if (options->edition != ROOSTCORD_EDITION_2) printf("edition %lu\n", (unsigned long)options->edition); /* the present one goes unsaid */
   print_decoder("identity", r->identity_answer, ROOSTCORD_IDENTITY_NEEDS, options);
   print_decoder("timings", r->timings_answer, ROOSTCORD_TIMINGS_NEED, options);
   if (!options->no_crc) print_crc(r->crc_answer, options);

@@ -4,7 +4,8 @@
 
 #include "options.h"
 
-/* An image: bytes, decoders, base CRC unless --no-crc is given, and findings; identity, timings and label where they are asked for. */
+/* An image: bytes, the edition unless it is the present one, decoders, base CRC unless --no-crc is given, and findings; identity, timings
+ * and label where they are asked for. */
 void print_image(const struct records *records, const struct options *options);
 
 /* An image that the library did not take. */

@@ -18,6 +18,9 @@
  * count of 0), a uint32_t or uint16_t pointer is aligned as its type asks, no two lent buffers of one call overlap, and nothing
  * else writes a lent buffer, or reads one that the call writes, while the call runs.
  *
+ * From 1.3.0 to 2.0.0: roostcord_lint and roostcord_pieces_fresh take the edition of the ladder, one argument more, so a caller must be
+ * changed and compiled anew; refusal 14 is new. With ROOSTCORD_EDITION_2 both answer as they did, and so do all other calls. A state that
+ * was made by 1.2.0 or 1.3.0 is one of edition 2.
  * From 1.2.0 to 1.3.0: three calls and refusal 21 are new, all for the base CRC. All other calls answer as they did.
  * From 1.1.0 to 1.2.0: ROOSTCORD_STATE_SIZE is 557, where it was 512. A caller that was compiled against 512 gets refusal 4 from every
  * pieces call until it is compiled anew. Four calls and refusal 13 are new. All other calls answer as they did.
@@ -30,10 +33,10 @@
 
 /*---- the version of this header ----*/
 
-#define ROOSTCORD_VERSION_MAJOR 1
-#define ROOSTCORD_VERSION_MINOR 3
+#define ROOSTCORD_VERSION_MAJOR 2
+#define ROOSTCORD_VERSION_MINOR 0
 #define ROOSTCORD_VERSION_PATCH 0
-/* as one number, which grows with every version, and as text: "1.3.0" */
+/* as one number, which grows with every version, and as text: "2.0.0" */
 #define ROOSTCORD_VERSION (ROOSTCORD_VERSION_MAJOR * 65536 + ROOSTCORD_VERSION_MINOR * 256 + ROOSTCORD_VERSION_PATCH)
 #define ROOSTCORD_VERSION_STRING \
   ROOSTCORD_TEXT(ROOSTCORD_VERSION_MAJOR) "." ROOSTCORD_TEXT(ROOSTCORD_VERSION_MINOR) "." ROOSTCORD_TEXT(ROOSTCORD_VERSION_PATCH)
@@ -77,6 +80,7 @@ enum {
   ROOSTCORD_REPORT_VERSION = 10,   /* a report of another version than 1 */
   ROOSTCORD_REPORT_MALFORMED = 11, /* no report of version 1 */
   ROOSTCORD_WRONG_DATE = 13,       /* strict: a date byte is not two decimal digits, or the week is not 1 to 53 */
+  ROOSTCORD_UNKNOWN_EDITION = 14,  /* the ladder has no such edition */
   ROOSTCORD_NEITHER_SOUND = 21     /* of two reads neither is long enough and has a base CRC that fits */
 };
 
@@ -97,7 +101,7 @@ enum {
 
 enum {
   ROOSTCORD_IMAGE_MAX = 2048,     /* of an image that is fed in pieces; the whole-image calls take any length */
-  ROOSTCORD_STATE_SIZE = 557,     /* the count in two bytes, and the first 555 of the image; 512 before 1.2.0 */
+  ROOSTCORD_STATE_SIZE = 557,     /* the count and the edition in two bytes, and the first 555 of the image; 512 before 1.2.0 */
   ROOSTCORD_IDENTITY_NEEDS = 236, /* bytes of an image, up to the last that is read; a shorter one is refused 1 */
   ROOSTCORD_TIMINGS_NEED = 94,
   ROOSTCORD_MANUFACTURING_NEEDS = 555,
@@ -112,6 +116,15 @@ enum {
   ROOSTCORD_FINDING_COUNT = 6,   /* numbers of a finding */
   ROOSTCORD_REPORT_NUMBERS = 91, /* the flags and six numbers for each of fifteen findings: no report has more */
   ROOSTCORD_REPORT_MAX = 215     /* no report has more bytes */
+};
+
+/*---- the editions of the ladder ----*/
+
+/* The ladder has the data rates that are standard, in steps of 400 MT/s. Code 7 alone goes by it: the findings under edition 1 are those
+ * under edition 2 and, where the rate is 6800, 7200 and so on up to 8800, one of code 7 behind them. */
+enum {
+  ROOSTCORD_EDITION_1 = 1, /* 3200 to 6400 */
+  ROOSTCORD_EDITION_2 = 2  /* 3200 to 8800: the present one */
 };
 
 /*---- the numbers of a report ----*/
@@ -140,7 +153,7 @@ enum {
   ROOSTCORD_CODE_NON_INTEGER_CAS_LATENCY = 4,   /* warning: tAA, tCK */
   ROOSTCORD_CODE_CAS_LATENCY_NOT_SUPPORTED = 5, /* error: the latency */
   ROOSTCORD_CODE_NON_INTEGER_CLOCK_TIMING = 6,  /* warning: the time, tCK */
-  ROOSTCORD_CODE_NON_STANDARD_DATA_RATE = 7,    /* info: MT/s */
+  ROOSTCORD_CODE_NON_STANDARD_DATA_RATE = 7,    /* info: MT/s, which are not on the ladder */
   ROOSTCORD_CODE_RESERVED_BYTES_NONZERO = 8,    /* warning: offset and value of the first such byte of a region */
   ROOSTCORD_CODE_PACKAGE_DIE_COUNT_MISMATCH = 9 /* error: dies */
 };
@@ -281,12 +294,13 @@ enum { ROOSTCORD_FIRST_READ = 1, ROOSTCORD_SECOND_READ = 2 };
  * Never refuses. */
 ROOSTCORD_MUST_USE uint32_t roostcord_version(void);
 
-/* Lints an image and writes the report, version 1: two bytes, high first, that count the bytes behind them; 1; the flags; the number of
- * findings; and for each finding fourteen bytes: code, sub, and three 32-bit numbers, high byte first.
+/* Lints an image under `edition`, ROOSTCORD_EDITION_.., and writes the report, version 1: two bytes, high first, that count the bytes
+ * behind them; 1; the flags; the number of findings; and for each finding fourteen bytes: code, sub, and three 32-bit numbers, high byte
+ * first. The edition is not in it.
  * Answers the count of bytes written, at most ROOSTCORD_REPORT_MAX.
- * Refuses 8 where report_len is less than that count. An image that cannot be decoded is not refused: the flags of its report say so, and
- * roostcord_identity and roostcord_timings tell why. */
-ROOSTCORD_MUST_USE int32_t roostcord_lint(const uint8_t *image, size_t image_len, uint8_t *report, size_t report_len);
+ * Refuses 14 for any other edition; 8 where report_len is less than that count. An image that cannot be decoded is not refused: the flags
+ * of its report say so, and roostcord_identity and roostcord_timings tell why. */
+ROOSTCORD_MUST_USE int32_t roostcord_lint(const uint8_t *image, size_t image_len, uint32_t edition, uint8_t *report, size_t report_len);
 
 /* Reads a report, version 1, into a list of numbers: the flags, and ROOSTCORD_FINDING_COUNT for each finding. Bytes behind the report
  * are not looked at.
@@ -348,14 +362,18 @@ ROOSTCORD_MUST_USE int32_t roostcord_sound_read(const uint8_t *first, size_t fir
  * The state is the first 557 bytes of `state`; the caller keeps it between calls and writes it by these calls alone. A piece goes with
  * the offset at which its bytes were read. It is taken exactly when that is the count of bytes taken and the total stays within 2,048.
  * After refusal 5, read again at the count that it carries: to send the same bytes with that offset would put them where they do not
- * belong, and no library can see it. */
+ * belong, and no library can see it.
+ *
+ * The state keeps the edition that it was made with: bit 4 of byte 1 is set for ROOSTCORD_EDITION_1. Byte 0 and bits 3-0 of byte 1, which
+ * are the high ones, count the bytes taken. Bits 7-5 mean nothing, and are 0 once a piece was taken. So any bytes are a state, and 557 of 0
+ * are one of ROOSTCORD_EDITION_2 that has taken nothing. */
 
-/* Makes a state that has taken nothing.
+/* Makes a state of `edition`, ROOSTCORD_EDITION_.., that has taken nothing.
  * Answers 0.
- * Refuses 4 where state_len is less than ROOSTCORD_STATE_SIZE. */
-ROOSTCORD_MUST_USE int32_t roostcord_pieces_fresh(uint8_t *state, size_t state_len);
+ * Refuses 14 for any other edition; 4 where state_len is less than ROOSTCORD_STATE_SIZE. */
+ROOSTCORD_MUST_USE int32_t roostcord_pieces_fresh(uint8_t *state, size_t state_len, uint32_t edition);
 
-/* Takes a piece; an empty one at the right offset changes nothing.
+/* Takes a piece; an empty one at the right offset changes nothing. The edition stays.
  * Answers the count of bytes taken, with the piece.
  * Refuses 4 for a short state; 5; 6. */
 ROOSTCORD_MUST_USE int32_t roostcord_pieces_feed(uint8_t *state, size_t state_len, size_t offset, const uint8_t *piece, size_t piece_len);
@@ -365,7 +383,8 @@ ROOSTCORD_MUST_USE int32_t roostcord_pieces_feed(uint8_t *state, size_t state_le
  * Refuses 4 for a short state. */
 ROOSTCORD_MUST_USE int32_t roostcord_pieces_taken(const uint8_t *state, size_t state_len);
 
-/* These do for the bytes that were taken what the calls without `pieces` do for an image, and answer the same.
+/* These do for the bytes that were taken what the calls without `pieces` do for an image, and answer the same. roostcord_pieces_lint lints
+ * under the edition of the state, so it never refuses 14.
  * Refuse 4 for a short state; then as those calls do. */
 ROOSTCORD_MUST_USE int32_t roostcord_pieces_lint(const uint8_t *state, size_t state_len, uint8_t *report, size_t report_len);
 ROOSTCORD_MUST_USE int32_t roostcord_pieces_identity(const uint8_t *state, size_t state_len, uint32_t *out, size_t out_len);

@@ -128,9 +128,10 @@ static bool overwrites(const struct input *input, const struct options *options)
   return true;
 }
 
-/* Feeds what a name stands for to a fresh state. */
+/* Feeds what a name stands for to a fresh state of the edition that is asked for. */
 static struct feed_result feed_input(struct input *input, const struct options *options, uint8_t state[ROOSTCORD_STATE_SIZE]) {
-  if (ROOSTCORD_REFUSED(roostcord_pieces_fresh(state, ROOSTCORD_STATE_SIZE))) return (struct feed_result){.end = FEED_FAILED}; /* never */
+  int32_t answer = roostcord_pieces_fresh(state, ROOSTCORD_STATE_SIZE, options->edition);
+  if (ROOSTCORD_REFUSED(answer)) return (struct feed_result){.end = FEED_FAILED}; /* never */
   return options->bursts ? feed_log(input, options, state) : feed_file(input, options, state);
 }
 

@@ -1,6 +1,6 @@
 /* Tests of libroostcord.a from C: buffers that end at a guard page or are exactly as long as told, every buffer length, NULL with
- * length 0, refusals that write nothing, and a state in lent bytes against the whole image. And of the feeding loop: readers that
- * repeat, lose, cut and mix bursts, against the whole image. Usage: library IMAGE... */
+ * length 0, refusals that write nothing, a state in lent bytes against the whole image, and the two editions of the ladder against each
+ * other. And of the feeding loop: readers that repeat, lose, cut and mix bursts, against the whole image. Usage: library IMAGE... */
 #define _DEFAULT_SOURCE
 #include "feed.h"
 #include "log.h"
@@ -30,6 +30,7 @@ SURELY(finding_places, ROOSTCORD_FINDING_THIRD + 1 == ROOSTCORD_FINDING_COUNT);
 SURELY(report_places, ROOSTCORD_REPORT_FLAGS + 1 == ROOSTCORD_REPORT_FINDINGS);
 SURELY(report_numbers, ROOSTCORD_REPORT_FINDINGS + ROOSTCORD_FINDINGS_MAX * ROOSTCORD_FINDING_COUNT == ROOSTCORD_REPORT_NUMBERS);
 SURELY(report_bytes, 5 + 14 * ROOSTCORD_FINDINGS_MAX == ROOSTCORD_REPORT_MAX);
+SURELY(editions, ROOSTCORD_EDITION_1 == 1 && ROOSTCORD_EDITION_2 == 2 && ROOSTCORD_UNKNOWN_EDITION == 14);
 SURELY(version, ROOSTCORD_VERSION >> 16 == ROOSTCORD_VERSION_MAJOR && ROOSTCORD_VERSION_MINOR < 256 && ROOSTCORD_VERSION_PATCH < 256);
 
 static long checks, faults;
@@ -65,8 +66,9 @@ static int all(const uint8_t *at, size_t n, uint8_t value) {
   return 1;
 }
 
-/* A state that has taken nothing. */
-static void fresh(uint8_t *state) { CHECK(roostcord_pieces_fresh(state, ROOSTCORD_STATE_SIZE) == 0); }
+/* A state that has taken nothing, of that edition; of the present one. */
+static void fresh_of(uint8_t *state, uint32_t edition) { CHECK(roostcord_pieces_fresh(state, ROOSTCORD_STATE_SIZE, edition) == 0); }
+static void fresh(uint8_t *state) { fresh_of(state, ROOSTCORD_EDITION_2); }
 
 static int same(const void *a, const void *b, size_t n) { return n == 0 || memcmp(a, b, n) == 0; }
 
@@ -147,11 +149,11 @@ static void largest_report(void) {
   reports_refused(report, sizeof report);
 }
 
-/* The report of an image into buffers of every length up to 216, on the heap and at a guard page. */
-static void every_report_length(const uint8_t *image, size_t n) {
+/* The report of an image under an edition into buffers of every length up to 216, on the heap and at a guard page. */
+static void every_report_length(const uint8_t *image, size_t n, uint32_t edition) {
   uint8_t whole[256];
   memset(whole, 0xA5, sizeof whole);
-  int32_t size = roostcord_lint(image, n, whole, sizeof whole);
+  int32_t size = roostcord_lint(image, n, edition, whole, sizeof whole);
   CHECK(size >= 5 && size <= ROOSTCORD_REPORT_MAX && (size - 5) % 14 == 0);
   CHECK(all(whole + size, sizeof whole - (size_t)size, 0xA5));
   CHECK(whole[0] * 256 + whole[1] == size - 2 && whole[2] == 1 && whole[3] <= 3 && whole[4] * 14 + 5 == size);
@@ -161,7 +163,7 @@ static void every_report_length(const uint8_t *image, size_t n) {
     uint8_t *heap = malloc(len ? len : 1), *edge = guarded(len);
     memset(heap, 0xA5, len ? len : 1);
     if (len) memset(edge, 0xA5, len);
-    int32_t a = roostcord_lint(image, n, len ? heap : NULL, len), b = roostcord_lint(image, n, edge, len);
+    int32_t a = roostcord_lint(image, n, edition, len ? heap : NULL, len), b = roostcord_lint(image, n, edition, edge, len);
     CHECK(a == b && a == ((size_t)size <= len ? size : -ROOSTCORD_BUFFER_TOO_SMALL));
     size_t put = a < 0 ? 0 : (size_t)a;
     CHECK(same(heap, whole, put) && same(edge, whole, put));
@@ -588,8 +590,8 @@ static void block_as_whole(const uint8_t *state, const uint8_t *image, size_t n)
   CHECK(roostcord_pieces_part_number(state, STATE, a, PART_MAX - 1) == -ROOSTCORD_LIST_TOO_SHORT && same(a, b, sizeof a));
 }
 
-/* Whether a state answers as the image does, and stays as it is. */
-static void as_whole(const uint8_t *state, const uint8_t *image, size_t n) {
+/* Whether a state answers as the image does under that edition, and stays as it is. */
+static void as_whole(const uint8_t *state, uint32_t edition, const uint8_t *image, size_t n) {
   uint8_t a[ROOSTCORD_REPORT_MAX + 1], b[ROOSTCORD_REPORT_MAX + 1];
   uint32_t x[LIST], y[LIST];
   uint16_t p[LIST], q[LIST];
@@ -597,7 +599,7 @@ static void as_whole(const uint8_t *state, const uint8_t *image, size_t n) {
   memcpy(before, state, STATE);
   memset(a, 1, sizeof a), memset(b, 1, sizeof b), memset(x, 1, sizeof x), memset(y, 1, sizeof y), memset(p, 1, sizeof p), memset(q, 1, sizeof q);
   CHECK(roostcord_pieces_taken(state, STATE) == (int32_t)n);
-  CHECK(roostcord_pieces_lint(state, STATE, a, sizeof a) == roostcord_lint(image, n, b, sizeof b) && same(a, b, sizeof a));
+  CHECK(roostcord_pieces_lint(state, STATE, a, sizeof a) == roostcord_lint(image, n, edition, b, sizeof b) && same(a, b, sizeof a));
   CHECK(roostcord_pieces_identity(state, STATE, x, LIST) == roostcord_identity(image, n, y, LIST) && same(x, y, sizeof x));
   CHECK(roostcord_pieces_timings(state, STATE, x, LIST) == roostcord_timings(image, n, y, LIST) && same(x, y, sizeof x));
   CHECK(roostcord_pieces_clocks(state, STATE, x, LIST) == roostcord_clocks(image, n, y, LIST) && same(x, y, sizeof x));
@@ -619,7 +621,8 @@ static void short_states(const uint8_t *image, size_t n) {
     size_t len = lengths[k];
     uint8_t *state = guarded(len);
     if (len) memset(state, 0xA5, len);
-    CHECK(roostcord_pieces_fresh(state, len) == SHORT && roostcord_pieces_taken(state, len) == SHORT);
+    CHECK(roostcord_pieces_fresh(state, len, ROOSTCORD_EDITION_1) == SHORT && roostcord_pieces_fresh(state, len, ROOSTCORD_EDITION_2) == SHORT);
+    CHECK(roostcord_pieces_taken(state, len) == SHORT);
     CHECK(roostcord_pieces_feed(state, len, 0, image, n) == SHORT && roostcord_pieces_lint(state, len, none, LIST) == SHORT);
     CHECK(roostcord_pieces_identity(state, len, list, LIST) == SHORT && roostcord_pieces_timings(state, len, list, LIST) == SHORT);
     CHECK(roostcord_pieces_clocks(state, len, list, LIST) == SHORT && roostcord_pieces_cas_latencies(state, len, narrow, LIST) == SHORT);
@@ -632,9 +635,10 @@ static void short_states(const uint8_t *image, size_t n) {
 }
 
 /* Bursts of one length, each sent twice: the second is refused and changes nothing. */
-static void each_twice(uint8_t *state, const uint8_t *image, size_t n, size_t burst) {
+static void each_twice(uint8_t *state, uint32_t edition, const uint8_t *image, size_t n, size_t burst) {
   uint8_t before[STATE];
-  CHECK(roostcord_pieces_fresh(state, STATE) == 0 && roostcord_pieces_taken(state, STATE) == 0);
+  fresh_of(state, edition);
+  CHECK(roostcord_pieces_taken(state, STATE) == 0);
   for (size_t at = 0; at < n; at += burst) {
     size_t len = n - at < burst ? n - at : burst;
     CHECK(roostcord_pieces_feed(state, STATE, at, image + at, len) == (int32_t)(at + len));
@@ -644,7 +648,7 @@ static void each_twice(uint8_t *state, const uint8_t *image, size_t n, size_t bu
   }
   CHECK(roostcord_pieces_taken(state, STATE) == (int32_t)n);
   CHECK(roostcord_pieces_feed(state, STATE, n, NULL, 0) == (int32_t)n);
-  as_whole(state, image, n);
+  as_whole(state, edition, image, n);
 }
 
 static void pieces(const uint8_t *image, size_t n) {
@@ -653,12 +657,12 @@ static void pieces(const uint8_t *image, size_t n) {
   uint8_t *state = guarded(STATE);
   uint32_t list[NUMBERS];
   short_states(image, n);
-  for (size_t burst = 1; burst <= 600; burst += burst < 20 ? 1 : 97) each_twice(state, image, n, burst);
+  for (size_t burst = 1; burst <= 600; burst += burst < 20 ? 1 : 97) each_twice(state, ROOSTCORD_EDITION_2, image, n, burst);
   for (size_t cut = 0; cut <= n; cut++) { /* every cut into two */
     fresh(state);
     CHECK(roostcord_pieces_feed(state, STATE, 0, image, cut) == (int32_t)cut);
     CHECK(roostcord_pieces_feed(state, STATE, cut, image + cut, n - cut) == (int32_t)n);
-    as_whole(state, image, n);
+    as_whole(state, ROOSTCORD_EDITION_2, image, n);
   }
   fresh(state);
   CHECK(roostcord_pieces_feed(state, STATE, 0, zeros, IMAGE_MAX + 1) == LONG);
@@ -672,6 +676,16 @@ static void pieces(const uint8_t *image, size_t n) {
   CHECK(roostcord_pieces_crc(state, STATE) == crc_of(state + 2, CRC_NEEDS));
   release(state, STATE);
 }
+
+/* Whether a state is that of the first n bytes under that edition, in its bytes and in all of its answers; under the present one. */
+static void holds_under(const uint8_t *state, uint32_t edition, const uint8_t *image, size_t n) {
+  uint8_t straight[STATE];
+  fresh_of(straight, edition);
+  CHECK(roostcord_pieces_feed(straight, STATE, 0, image, n) == (int32_t)n && same(straight, state, STATE));
+  as_whole(state, edition, image, n);
+}
+
+static void holds(const uint8_t *state, const uint8_t *image, size_t n) { holds_under(state, ROOSTCORD_EDITION_2, image, n); }
 
 /*---- the feeding loop ----*/
 
@@ -758,21 +772,14 @@ static int false_timings(const uint8_t *state, const uint8_t *image, size_t n) {
   return roostcord_timings(image, n, y, ROOSTCORD_TIMINGS_COUNT) == ROOSTCORD_TIMINGS_COUNT && !same(x, y, sizeof x);
 }
 
-/* Whether a state is that of the first n bytes, in its bytes and in all of its answers. */
-static void holds(const uint8_t *state, const uint8_t *image, size_t n) {
-  uint8_t straight[STATE];
-  fresh(straight);
-  CHECK(roostcord_pieces_feed(straight, STATE, 0, image, n) == (int32_t)n && same(straight, state, STATE));
-  as_whole(state, image, n);
-}
 
 /* One run of the loop with an unruly reader: how it ended, after the end was held to what the reader did. */
-static enum feed_end unruly_run(struct unruly u, size_t len) {
+static enum feed_end unruly_run(struct unruly u, size_t len, uint32_t edition) {
   uint8_t state[STATE];
   struct reader reader = {ask_unruly, NULL, &u, FEED_TRIES};
-  fresh(state);
+  fresh_of(state, edition);
   struct feed_result fed = feed_image(&reader, len, state);
-  holds(state, u.image, fed.taken);
+  holds_under(state, edition, u.image, fed.taken);
   CHECK(u.same <= FEED_TRIES && fed.asked == fed.taken && fed.came == u.last.offset);
   if (fed.end == FEED_WHOLE) CHECK(fed.taken == u.n && u.last.kind == BURST_END);
   else if (fed.end == FEED_REFUSED) CHECK(fed.refusal == -ROOSTCORD_TOO_LONG && u.n > IMAGE_MAX && u.last.offset + u.last.len > IMAGE_MAX);
@@ -781,18 +788,19 @@ static enum feed_end unruly_run(struct unruly u, size_t len) {
   return fed.end;
 }
 
-/* Many runs, each with its own share of faults, length and bursts; the old loop on the same ones. */
+/* Many runs, each with its own share of faults, length and bursts, and under the two editions in turn; the old loop on the same ones. */
 static void unruly_runs(const uint8_t *sample, size_t n) {
   static uint8_t image[PAST];
   long ends[FEED_FAILED + 1] = {0}, old_ended = 0, old_false = 0;
   struct unruly lot = unruly(sample, n, 2026, 0);
   memcpy(image, sample, n);
   for (size_t i = n; i < PAST; i++) image[i] = (uint8_t)pick(&lot, 256);
+  image[20] = 250, image[21] = 0; /* 8000 MT/s, which the editions tell apart */
   for (uint64_t run = 0; run < RUNS; run++) {
     size_t length = pick(&lot, 2) ? n : pick(&lot, PAST + 1), len = pick(&lot, 2) ? BURST : 1 + pick(&lot, 4 * BURST);
     struct unruly u = unruly(image, length, run, (unsigned)pick(&lot, ANSWERS_OF + 1));
     u.in_turn = (int)pick(&lot, 2);
-    ends[unruly_run(u, len)]++;
+    ends[unruly_run(u, len, run % 2 ? ROOSTCORD_EDITION_1 : ROOSTCORD_EDITION_2)]++;
     uint8_t state[STATE];
     struct reader reader = {ask_unruly, NULL, &u, FEED_TRIES};
     fresh(state);
@@ -969,6 +977,245 @@ static void files(const uint8_t *image, size_t n) {
   CHECK(fed.end == FEED_FAILED && fed.error == EBADF);
 }
 
+/*---- the editions of the ladder ----*/
+
+enum { FIRST = ROOSTCORD_EDITION_1, SECOND = ROOSTCORD_EDITION_2, UNKNOWN = -ROOSTCORD_UNKNOWN_EDITION, FIRST_BIT = 16, FINDING = 14 };
+
+/* Numbers that are no edition. Many of them are 1 or 2 where they are cut to 8, 16 or 31 bits. */
+static const uint32_t no_editions[] = {0,     3,     4,     15,    16,         17,         18,         255,        256,            257,       258,
+                                       65535, 65536, 65537, 65538, 0x7FFFFFFF, 0x80000000, 0x80000001, 0x80000002, UINT32_MAX - 1, UINT32_MAX};
+enum { NO_EDITIONS = sizeof no_editions / sizeof *no_editions };
+
+/* The ladder, written out: its first nine rates are edition 1, and all fifteen edition 2. */
+static const uint32_t ladder[] = {3200, 3600, 4000, 4400, 4800, 5200, 5600, 6000, 6400, 6800, 7200, 7600, 8000, 8400, 8800};
+enum { RATES_1 = 9, RATES_2 = 15 };
+
+/* Whether a rate has a finding where so many of the ladder are standard; 0 has none. */
+static int unlisted(uint32_t rate, size_t rates) {
+  for (size_t k = 0; k < rates; k++)
+    if (rate == ladder[k]) return 0;
+  return rate != 0;
+}
+
+/* The data rate of an image, to the nearest 100; 0 where its timings are refused or its tCKmin is 0. */
+static uint32_t rate_of(const uint8_t *image, size_t n) {
+  uint32_t tck = n < TIMINGS_NEED ? 0 : image[20] + 256u * image[21];
+  return tck ? (2000000 / tck + 50) / 100 * 100 : 0;
+}
+
+static void set_tck(uint8_t *image, unsigned tck) { image[20] = (uint8_t)tck, image[21] = (uint8_t)(tck >> 8); }
+
+/* Whether a report's findings of code 7 are this one of that rate alone, behind all others; or none. */
+static int ends_in_rate(const uint8_t *report, uint32_t rate, int wanted) {
+  const uint8_t last[FINDING] = {7, 0, (uint8_t)(rate >> 24), (uint8_t)(rate >> 16), (uint8_t)(rate >> 8), (uint8_t)rate};
+  int sevens = 0, count = report[4];
+  for (int k = 0; k < count; k++) sevens += report[5 + FINDING * k] == 7;
+  if (!wanted) return sevens == 0;
+  return sevens == 1 && same(report + 5 + FINDING * (count - 1), last, FINDING);
+}
+
+/* An image under both editions: the reports are the same, or that of edition 1 has one finding of code 7 more. Answers whether it has. */
+static int apart(const uint8_t *image, size_t n) {
+  uint8_t one[ROOSTCORD_REPORT_MAX + 1], two[ROOSTCORD_REPORT_MAX + 1];
+  uint32_t rate = rate_of(image, n);
+  int more = unlisted(rate, RATES_1) - unlisted(rate, RATES_2);
+  memset(one, 0xA5, sizeof one), memset(two, 0xA5, sizeof two);
+  int32_t a = roostcord_lint(image, n, FIRST, one, sizeof one), b = roostcord_lint(image, n, SECOND, two, sizeof two);
+  CHECK(b >= 5 && a == b + more * FINDING && (more == 0 || more == 1));
+  if (b < 5 || a < b) return 0;
+  CHECK(one[0] * 256 + one[1] == a - 2 && one[2] == two[2] && one[3] == two[3] && one[4] == two[4] + more && same(one + 5, two + 5, (size_t)b - 5));
+  CHECK(more || same(one, two, sizeof one));
+  CHECK(ends_in_rate(one, rate, unlisted(rate, RATES_1)) && ends_in_rate(two, rate, unlisted(rate, RATES_2)));
+  CHECK(all(one + a, sizeof one - (size_t)a, 0xA5));
+  return a > b;
+}
+
+/* Every tCKmin, and those around the ends of both ladders for images that are cut. Each of the six rates comes. */
+static void every_rate(const uint8_t *sample, size_t n) {
+  static const size_t lengths[] = {0, 21, 22, 93, 94, 100, 235, 236, 512, 555};
+  uint8_t image[IMAGE_MAX];
+  long seen[RATES_2] = {0}, cut = 0;
+  memcpy(image, sample, n);
+  for (unsigned tck = 0; tck < 65536; tck++) {
+    set_tck(image, tck);
+    int more = apart(image, n);
+    for (size_t k = RATES_1; k < RATES_2; k++) seen[k] += more && rate_of(image, n) == ladder[k];
+  }
+  for (size_t k = RATES_1; k < RATES_2; k++) CHECK(seen[k] > 0);
+  for (unsigned tck = 220; tck < 320; tck++) {
+    set_tck(image, tck);
+    for (size_t k = 0; k < sizeof lengths / sizeof *lengths; k++) cut += apart(image, lengths[k]);
+  }
+  CHECK(cut > 0);
+}
+
+/* Fourteen findings, and under edition 1 fifteen, the most that an image has. */
+static void fullest(const uint8_t *sample, size_t n) {
+  static const uint8_t times[] = {0x91, 1, 0x93, 1, 0x91, 1, 0x92, 1, 0x91, 1}; /* tAA, tRCD, tRP, tRAS and tRC, none of which fits another */
+  uint8_t image[IMAGE_MAX], report[ROOSTCORD_REPORT_MAX];
+  memset(image, 0xFF, n);
+  memcpy(image, sample, 8);
+  memcpy(image + 30, times, sizeof times);
+  image[6] = 0x40, image[234] = 0, image[235] = 0x20; /* devices of 16 bits, and a bus of 8 */
+  set_tck(image, 250);
+  CHECK(apart(image, n) == 1 && roostcord_lint(image, n, FIRST, report, sizeof report) == ROOSTCORD_REPORT_MAX);
+  every_report_length(image, n, FIRST);
+  every_report_length(image, n, SECOND);
+}
+
+/* Linting under no edition is refused 14, before 8, into buffers of every length; nothing is written. */
+static void unknown_lints(const uint8_t *image, size_t n) {
+  for (size_t len = 0; len <= ROOSTCORD_REPORT_MAX + 1; len++) {
+    uint8_t *edge = guarded(len);
+    if (len) memset(edge, 0xA5, len);
+    for (size_t k = 0; k < NO_EDITIONS; k++) {
+      CHECK(roostcord_lint(image, n, no_editions[k], edge, len) == UNKNOWN && roostcord_lint(image, 93, no_editions[k], edge, len) == UNKNOWN);
+      CHECK(roostcord_lint(NULL, 0, no_editions[k], edge, len) == UNKNOWN);
+    }
+    CHECK(len == 0 || all(edge, len, 0xA5));
+    release(edge, len);
+  }
+}
+
+/* So is a state of no edition, before 4, whatever its length; the lent bytes stay. */
+static void unknown_states(void) {
+  for (size_t len = 0; len <= STATE + 3; len++) {
+    uint8_t *edge = guarded(len);
+    if (len) memset(edge, 0xA5, len);
+    for (size_t k = 0; k < NO_EDITIONS; k++) CHECK(roostcord_pieces_fresh(edge, len, no_editions[k]) == UNKNOWN);
+    CHECK(len == 0 || all(edge, len, 0xA5));
+    release(edge, len);
+  }
+}
+
+/* A state of either edition that has taken half of an image is as it was after a refused fresh, and goes on. One that is not refused, of the
+ * other edition, begins anew. */
+static void refused_fresh(const uint8_t *image, size_t n) {
+  uint8_t state[STATE], before[STATE];
+  for (uint32_t edition = FIRST; edition <= SECOND; edition++) {
+    fresh_of(state, edition);
+    CHECK(roostcord_pieces_feed(state, STATE, 0, image, n / 2) == (int32_t)(n / 2));
+    memcpy(before, state, STATE);
+    for (size_t k = 0; k < NO_EDITIONS; k++) CHECK(roostcord_pieces_fresh(state, STATE, no_editions[k]) == UNKNOWN && same(before, state, STATE));
+    CHECK(roostcord_pieces_fresh(state, STATE - 1, FIRST + SECOND - edition) == -ROOSTCORD_LIST_TOO_SHORT && same(before, state, STATE));
+    holds_under(state, edition, image, n / 2);
+    CHECK(roostcord_pieces_feed(state, STATE, n / 2, image + n / 2, n - n / 2) == (int32_t)n);
+    holds_under(state, edition, image, n);
+    fresh_of(state, FIRST + SECOND - edition);
+    holds_under(state, FIRST + SECOND - edition, image, 0);
+  }
+}
+
+/* The fresh states byte by byte: 557 of 0 for edition 2, and bit 4 of byte 1 for edition 1. What is lent behind them stays. */
+static void fresh_states(void) {
+  uint8_t state[STATE + 3];
+  for (uint32_t edition = FIRST; edition <= SECOND; edition++) {
+    memset(state, 0xA5, sizeof state);
+    CHECK(roostcord_pieces_fresh(state, sizeof state, edition) == 0 && state[0] == 0 && state[1] == (edition == FIRST ? FIRST_BIT : 0));
+    CHECK(all(state + 2, STATE - 2, 0) && all(state + STATE, 3, 0xA5));
+  }
+  memset(state, 0, STATE);
+  holds(state, NULL, 0);
+}
+
+/* The first two bytes of a state of so many bytes. */
+static int headed(const uint8_t *state, uint32_t edition, size_t taken) {
+  return state[0] == taken % 256 && state[1] == taken / 256 + (edition == FIRST ? FIRST_BIT : 0);
+}
+
+/* Every count up to the most, a byte at a time: the bit of the edition is in none of them, and stays. */
+static void edition_counts(const uint8_t *image, size_t n, uint32_t edition) {
+  uint8_t state[STATE];
+  fresh_of(state, edition);
+  for (size_t at = 0; at < IMAGE_MAX; at++) {
+    CHECK(roostcord_pieces_feed(state, STATE, at, image + at % n, 1) == (int32_t)at + 1);
+    CHECK(roostcord_pieces_taken(state, STATE) == (int32_t)at + 1 && headed(state, edition, at + 1));
+  }
+  CHECK(roostcord_pieces_feed(state, STATE, IMAGE_MAX, image, 1) == -ROOSTCORD_TOO_LONG && headed(state, edition, IMAGE_MAX));
+  CHECK(roostcord_pieces_feed(state, STATE, 0, image, n) == -(ROOSTCORD_WRONG_OFFSET + 256 * IMAGE_MAX) && headed(state, edition, IMAGE_MAX));
+}
+
+/* An image of a rate that only edition 2 has, under both, in bursts that come twice and in every cut into two: each state has the bytes of
+ * one that took the image at once. */
+static void edition_cuts(const uint8_t *image, size_t n) {
+  uint8_t state[STATE];
+  for (uint32_t edition = FIRST; edition <= SECOND; edition++) {
+    for (size_t burst = 1; burst <= n + 97; burst += burst < 20 ? 5 : 97) {
+      each_twice(state, edition, image, n, burst);
+      holds_under(state, edition, image, n);
+    }
+    for (size_t cut = 0; cut <= n; cut++) {
+      fresh_of(state, edition);
+      CHECK(roostcord_pieces_feed(state, STATE, 0, image, cut) == (int32_t)cut);
+      CHECK(roostcord_pieces_feed(state, STATE, cut, image + cut, n - cut) == (int32_t)n);
+      holds_under(state, edition, image, n);
+    }
+    edition_counts(image, n, edition);
+  }
+}
+
+/* The report of a state into buffers of every length: one that has room for the findings of edition 2 may have too little under edition 1. */
+static void edition_reports(const uint8_t *image, size_t n) {
+  uint8_t state[STATE], wanted[ROOSTCORD_REPORT_MAX + 1];
+  for (uint32_t edition = FIRST; edition <= SECOND; edition++) {
+    fresh_of(state, edition);
+    CHECK(roostcord_pieces_feed(state, STATE, 0, image, n) == (int32_t)n);
+    for (size_t len = 0; len <= sizeof wanted; len++) {
+      uint8_t *edge = guarded(len);
+      if (len) memset(edge, 0xA5, len);
+      memset(wanted, 0xA5, sizeof wanted);
+      CHECK(roostcord_pieces_lint(state, STATE, edge, len) == roostcord_lint(image, n, edition, wanted, len) && same(edge, wanted, len));
+      release(edge, len);
+    }
+  }
+}
+
+/* A state of any bytes and a piece: refused, it stays to the last bit; taken, the edition stays, and bits 7-5 of byte 1 go. */
+static void random_feed(uint8_t *state, uint32_t edition, size_t taken, size_t len) {
+  static const uint8_t piece[IMAGE_MAX + 1];
+  uint8_t before[STATE];
+  memcpy(before, state, STATE);
+  CHECK(roostcord_pieces_feed(state, STATE, taken + 1, piece, len) == -(ROOSTCORD_WRONG_OFFSET + 256 * (int32_t)taken) && same(before, state, STATE));
+  CHECK(roostcord_pieces_feed(state, STATE, taken, piece, IMAGE_MAX + 1) == -ROOSTCORD_TOO_LONG && same(before, state, STATE));
+  int32_t answer = roostcord_pieces_feed(state, STATE, taken, piece, len);
+  if (taken + len > IMAGE_MAX) CHECK(answer == -ROOSTCORD_TOO_LONG && same(before, state, STATE));
+  else CHECK(answer == (int32_t)(taken + len) && headed(state, edition, taken + len));
+}
+
+/* Any bytes are a state: bit 4 of byte 1 says its edition, and the four below it are the high ones of its count. */
+static void random_states(void) {
+  struct unruly lot = unruly(NULL, 0, 2027, 0);
+  uint8_t state[STATE], a[ROOSTCORD_REPORT_MAX + 1], b[ROOSTCORD_REPORT_MAX + 1];
+  long differ[SECOND + 1] = {0};
+  for (int k = 0; k < 6000; k++) {
+    for (size_t i = 0; i < STATE; i++) state[i] = (uint8_t)pick(&lot, 256);
+    if (k % 4) set_tck(state + 2, 220 + (unsigned)pick(&lot, 80));
+    size_t taken = state[0] + 256u * (state[1] & 15u), n = taken < STATE - 2 ? taken : STATE - 2;
+    uint32_t edition = state[1] & FIRST_BIT ? FIRST : SECOND;
+    memset(a, 1, sizeof a), memset(b, 1, sizeof b);
+    CHECK(roostcord_pieces_taken(state, STATE) == (int32_t)taken);
+    CHECK(roostcord_pieces_lint(state, STATE, a, sizeof a) == roostcord_lint(state + 2, n, edition, b, sizeof b) && same(a, b, sizeof a));
+    differ[edition] += apart(state + 2, n);
+    random_feed(state, edition, taken, pick(&lot, 40));
+  }
+  CHECK(differ[FIRST] > 500 && differ[SECOND] > 500); /* or the editions were not told apart */
+}
+
+static void editions(const uint8_t *sample, size_t n) {
+  uint8_t image[IMAGE_MAX];
+  CHECK(n >= 600); /* or the editions are not tried */
+  if (n < 600) return;
+  memcpy(image, sample, n);
+  set_tck(image, 250);
+  CHECK(rate_of(image, n) == 8000 && apart(image, n) == 1);
+  every_rate(sample, n);
+  fullest(sample, n);
+  unknown_lints(image, n);
+  refused_fresh(image, n);
+  edition_cuts(image, n);
+  edition_reports(image, n);
+}
+
 int main(int argc, char **argv) {
   static uint8_t image[2 * IMAGE_MAX];
   if (argc < 2) {
@@ -991,7 +1238,7 @@ int main(int argc, char **argv) {
       size_t len = lengths[k] < n ? lengths[k] : n;
       uint8_t *edge = guarded(len);
       if (len) memcpy(edge, image, len);
-      every_report_length(edge, len);
+      every_report_length(edge, len, ROOSTCORD_EDITION_2);
       every_list_length(edge, len);
       release(edge, len);
     }
@@ -1000,6 +1247,7 @@ int main(int argc, char **argv) {
     every_block(image, n);
     every_crc(image, n);
     pieces(image, n);
+    editions(image, n);
     CHECK(n > 2 * BURST); /* or the feeding loop is not tried */
     if (n <= 2 * BURST) continue;
     unruly_runs(image, n);
@@ -1010,6 +1258,9 @@ int main(int argc, char **argv) {
   }
   largest_report();
   known_crcs();
+  fresh_states();
+  unknown_states();
+  random_states();
   printf("test: %ld checks, %ld faults\n", checks, faults);
   return faults != 0;
 }
