@@ -6,6 +6,7 @@ mod ours;
 mod stack;
 
 use images::{PROFILES, Rng, STORED_CRC, put_block, put16, seal};
+use ours::{EDITION_1, EDITION_2};
 use spdr::Finding;
 use std::hint::black_box;
 use std::process::Command;
@@ -69,7 +70,7 @@ fn clean(count: usize) -> Vec<Image> {
 fn reports(count: usize) -> Vec<Image> {
     let one = |image: &Image| {
         let mut report = [0; LEN];
-        ours::lint(image, &mut report);
+        ours::lint(image, EDITION_2, &mut report);
         report
     };
     mixed(count).iter().map(one).collect()
@@ -77,10 +78,12 @@ fn reports(count: usize) -> Vec<Image> {
 
 // --- What is timed: one call on one image. The buffers that are filled are made once, before --------------------------------
 
-fn lint_ours() -> impl FnMut(&Image) {
+/// Which edition it is the compiler does not see.
+fn lint_ours(edition: u32) -> impl FnMut(&Image) {
+    let edition = black_box(edition);
     let mut report = [0; ours::REPORT_MAX];
     move |image| {
-        black_box(ours::lint(black_box(image), black_box(&mut report)));
+        black_box(ours::lint(black_box(image), edition, black_box(&mut report)));
         black_box(&report);
     }
 }
@@ -169,11 +172,12 @@ fn report_ours() -> impl FnMut(&Image) {
 }
 
 /// The whole image in bursts of sixteen, then lint.
-fn bursts_ours() -> impl FnMut(&Image) {
+fn bursts_ours(edition: u32) -> impl FnMut(&Image) {
+    let edition = black_box(edition);
     let mut state = [0; ours::STATE_SIZE];
     let mut report = [0; ours::REPORT_MAX];
     move |image| {
-        black_box(ours::pieces_fresh(black_box(&mut state)));
+        black_box(ours::pieces_fresh(black_box(&mut state), edition));
         for (k, burst) in black_box(image).chunks(16).enumerate() {
             black_box(ours::pieces_feed(black_box(&mut state), 16 * k, black_box(burst)));
         }
@@ -284,10 +288,12 @@ fn compare<I>(images: &[I], shuffled: bool, mut first: impl FnMut(&I), mut secon
 /// Runs one family so often, for callgrind.
 fn run_family(name: &str, passes: usize) -> bool {
     match name {
-        "lint-mixed-ours" => run(mixed, passes, lint_ours()),
-        "lint-mixed-rust" => run(mixed, passes, lint_rust()),
-        "lint-clean-ours" => run(clean, passes, lint_ours()),
-        "lint-clean-rust" => run(clean, passes, lint_rust()),
+        "lint-mixed-ours" => run(mixed, passes, lint_ours(EDITION_2)),
+        "lint-mixed-1-ours" => run(mixed, passes, lint_ours(EDITION_1)),
+        "lint-mixed-rust" | "lint-mixed-1-rust" => run(mixed, passes, lint_rust()),
+        "lint-clean-ours" => run(clean, passes, lint_ours(EDITION_2)),
+        "lint-clean-1-ours" => run(clean, passes, lint_ours(EDITION_1)),
+        "lint-clean-rust" | "lint-clean-1-rust" => run(clean, passes, lint_rust()),
         "identity-ours" => run(mixed, passes, identity_ours()),
         "identity-rust" => run(mixed, passes, identity_rust()),
         "timings-ours" => run(mixed, passes, timings_ours()),
@@ -297,7 +303,8 @@ fn run_family(name: &str, passes: usize) -> bool {
         "crc-ours" | "verify-ours" => run(sealed, passes, crc_ours()),
         "crc-rust" => run(sealed, passes, crc_rust()),
         "verify-rust" => run(sealed, passes, verify_rust()),
-        "bursts-ours" => run(mixed, passes, bursts_ours()),
+        "bursts-ours" => run(mixed, passes, bursts_ours(EDITION_2)),
+        "bursts-1-ours" => run(mixed, passes, bursts_ours(EDITION_1)),
         "report-ours" => run(reports, passes, report_ours()),
         "nothing" => run(mixed, passes, nothing()),
         "nothing-labelled" => run(labelled, passes, nothing()),
@@ -354,6 +361,12 @@ fn print_machine() {
         total as f64 / FIXED as f64
     );
     println!(
+        "- edition 2, which has the Rust's ladder, unless a row says edition 1; under that {} of {FIXED} mixed images and {} of {FIXED} clean \
+         ones have a finding more than the Rust's",
+        more_findings(&mixed(FIXED)),
+        more_findings(&clean(FIXED))
+    );
+    println!(
         "- manufacturing: the mixed images with a block behind them, {PROFILES} bytes in all; part numbers of 0 to 30 ASCII characters: ours \
          hands back the length of one without its spaces, the Rust the text"
     );
@@ -381,16 +394,30 @@ fn findings(image: &Image) -> usize {
     count
 }
 
+/// How many findings ours writes.
+fn written(image: &Image, edition: u32) -> usize {
+    let mut report = [0; ours::REPORT_MAX];
+    ours::lint(image, edition, &mut report);
+    usize::from(report[4])
+}
+
+/// How many images have a finding more under edition 1.
+fn more_findings(images: &[Image]) -> usize {
+    images.iter().filter(|image| written(image, EDITION_1) > written(image, EDITION_2)).count()
+}
+
 /// Both sides do the same work: clean images have no finding, and ours writes as many of a mixed one as the Rust finds. Where a change made the image one
 /// of another device type that the Rust decodes (docs/DIFFERENCES.md, row 2), ours has no identity to find a fault in.
 fn check_images() {
-    let mut report = [0; ours::REPORT_MAX];
     assert!(clean(SHUFFLED).iter().all(|image| findings(image) == 0), "a clean image has a finding");
     for image in &mixed(SHUFFLED) {
-        ours::lint(image, &mut report);
         let other_device = matches!(image[2], 0x0B | 0x0C | 0x13);
-        let (here, there) = (usize::from(report[4]), findings(image));
+        let (here, there) = (written(image, EDITION_2), findings(image));
         assert!(here == there || (other_device && here < there), "an image has other findings than the Rust's: see the judge");
+        assert!(
+            (here..=here + 1).contains(&written(image, EDITION_1)),
+            "an image has other findings under edition 1: see the judge"
+        );
     }
     // Here spaces alone pad a part number, and both sides have it as long.
     let mut out = [0; ours::MANUFACTURING_COUNT];
@@ -438,25 +465,29 @@ fn print_against_rust(own: Option<f64>) {
         "| call | ours / Rust, median | quartiles | range | best of each | ours ns | Rust ns | ours instructions | Rust's |"
     );
     println!("|---|---|---|---|---|---|---|---|---|");
-    print_rows("lint, mixed", "lint-mixed", mixed, lint_ours(), lint_rust(), own);
-    print_rows("lint, clean", "lint-clean", clean, lint_ours(), lint_rust(), own);
+    print_rows("lint, mixed", "lint-mixed", mixed, lint_ours(EDITION_2), lint_rust(), own);
+    print_rows("lint, clean", "lint-clean", clean, lint_ours(EDITION_2), lint_rust(), own);
+    print_rows("lint, edition 1, mixed", "lint-mixed-1", mixed, lint_ours(EDITION_1), lint_rust(), own);
+    print_rows("lint, edition 1, clean", "lint-clean-1", clean, lint_ours(EDITION_1), lint_rust(), own);
     print_rows("identity, mixed", "identity", mixed, identity_ours(), identity_rust(), own);
     print_rows("timings, mixed", "timings", mixed, timings_ours(), timings_rust(), own);
     let labelled_own = instructions("nothing-labelled");
     print_rows("manufacturing", "manufacturing", labelled, manufacturing_ours(), manufacturing_rust(), labelled_own);
     print_rows("crc, 510 bytes", "crc", sealed, crc_ours(), crc_rust(), own);
     print_rows("crc, 510 bytes, against `verify_base_crc`", "verify", sealed, crc_ours(), verify_rust(), own);
-    let f = compare(&mixed(FIXED), false, bursts_ours(), lint_rust());
-    println!(
-        "| 512 bytes in 32 bursts, then lint, against the Rust's lint of the whole image; mixed, fixed | {} | {} | {} |",
-        time_cells(&f),
-        instruction_cell("bursts-ours", own),
-        instruction_cell("lint-mixed-rust", own)
-    );
+    for (edition, named, family) in [(EDITION_2, "", "bursts-ours"), (EDITION_1, ", edition 1", "bursts-1-ours")] {
+        let f = compare(&mixed(FIXED), false, bursts_ours(edition), lint_rust());
+        println!(
+            "| 512 bytes in 32 bursts, then lint{named}, against the Rust's lint of the whole image; mixed, fixed | {} | {} | {} |",
+            time_cells(&f),
+            instruction_cell(family, own),
+            instruction_cell("lint-mixed-rust", own)
+        );
+    }
 }
 
 fn print_bursts(own: Option<f64>) {
-    let f = compare(&mixed(FIXED), false, bursts_ours(), lint_ours());
+    let f = compare(&mixed(FIXED), false, bursts_ours(EDITION_2), lint_ours(EDITION_2));
     println!(
         "| ours alone | in bursts / one call, median | quartiles | range | best of each | bursts ns | one call ns | bursts' instructions |"
     );
@@ -479,13 +510,15 @@ fn print_reading(own: Option<f64>) {
 }
 
 /// The arguments of a call on an image, on its report, or on a state.
-fn arguments(name: &str, image: &Labelled, report: &Image, state: &mut [u8], out: &mut [u32]) -> [usize; 5] {
+fn arguments(name: &str, edition: u32, image: &Labelled, report: &Image, state: &mut [u8], out: &mut [u32]) -> [usize; 5] {
     let at = state.as_mut_ptr() as usize;
     // So many places in each element size: the buffer is long enough in the widest.
     let filled = out.as_mut_ptr() as usize;
     match name {
+        "roostcord_lint" => [image.as_ptr() as usize, image.len(), edition as usize, filled, out.len()],
         "roostcord_report" => [report.as_ptr() as usize, LEN, filled, out.len(), 0],
-        "roostcord_pieces_fresh" | "roostcord_pieces_taken" | "roostcord_pieces_crc" => [at, state.len(), 0, 0, 0],
+        "roostcord_pieces_fresh" => [at, state.len(), edition as usize, 0, 0],
+        "roostcord_pieces_taken" | "roostcord_pieces_crc" => [at, state.len(), 0, 0, 0],
         "roostcord_pieces_feed" => [at, state.len(), LEN - 16, image[LEN - 16..].as_ptr() as usize, 16],
         "roostcord_crc" => [image.as_ptr() as usize, image.len(), 0, 0, 0],
         // Neither read is sound: a mixed image seldom has a base CRC that fits, and a report none.
@@ -497,24 +530,29 @@ fn arguments(name: &str, image: &Labelled, report: &Image, state: &mut [u8], out
     }
 }
 
-/// The most stack of each call over the mixed images with a block. A state has taken all of its image, or all before the burst that it is fed.
+/// The most stack of each call over the mixed images with a block, under either edition. A state has taken all of its image, or all before the burst that
+/// it is fed.
 fn print_stack() {
     let mut room = stack::Stack::new();
     let symbols = ours::symbols();
     let mut most = [0; ours::SYMBOLS];
-    for (image, report) in labelled(FIXED).iter().zip(&reports(FIXED)) {
-        for (most, (name, function)) in most.iter_mut().zip(symbols) {
-            let mut state = [0; ours::STATE_SIZE];
-            let mut out = [0; ours::REPORT_MAX];
-            let taken = if name == "roostcord_pieces_feed" { LEN - 16 } else { image.len() };
-            let ready = || {
-                ours::pieces_fresh(&mut state);
-                ours::pieces_feed(&mut state, 0, &image[..taken]);
-                stack::Call { function, arguments: arguments(name, image, report, &mut state, &mut out) }
-            };
-            // SAFETY: the arguments are those of station/roostcord.h, and nothing else uses the buffers meanwhile.
-            *most = (*most).max(unsafe { room.used(ready) });
-            black_box((&state, &out));
+    let images = labelled(FIXED);
+    let reports = reports(FIXED);
+    for edition in [EDITION_1, EDITION_2] {
+        for (image, report) in images.iter().zip(&reports) {
+            for (most, (name, function)) in most.iter_mut().zip(symbols) {
+                let mut state = [0; ours::STATE_SIZE];
+                let mut out = [0; ours::REPORT_MAX];
+                let taken = if name == "roostcord_pieces_feed" { LEN - 16 } else { image.len() };
+                let ready = || {
+                    ours::pieces_fresh(&mut state, edition);
+                    ours::pieces_feed(&mut state, 0, &image[..taken]);
+                    stack::Call { function, arguments: arguments(name, edition, image, report, &mut state, &mut out) }
+                };
+                // SAFETY: the arguments are those of station/roostcord.h, and nothing else uses the buffers meanwhile.
+                *most = (*most).max(unsafe { room.used(ready) });
+                black_box((&state, &out));
+            }
         }
     }
     println!("| call | stack, bytes |");

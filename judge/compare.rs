@@ -1,12 +1,13 @@
 //! One image, asked of both sides: every number of both records, the refusals with what they carry, the offset that is missing among
-//! it, the CAS list, and every finding in order. Our answers come from the C library; the Rust's are put into document 01's numbers here.
-//! The manufacturing block is compared in manufacturing.rs, and the base CRC in crc.rs.
+//! it, the CAS list, and every finding in order. Our answers come from the C library, findings under edition 2; the Rust's are put into
+//! document 01's numbers here. Edition 1 is compared in editions.rs, the manufacturing block in manufacturing.rs, and the base CRC in crc.rs.
 //!
 //! The report form has no severity, so the Rust's severity of each finding is held against document 01's for its code; and so is
 //! the severity that the library answers when it reads the report back, with all else that the report says. The clock table,
 //! which the Rust does not have, is held against document 01's definition of it over the Rust's times.
 
 use crate::crc;
+use crate::editions;
 use crate::images::Rng;
 use crate::manufacturing;
 use crate::numbers::{DEVICE_TYPE, Row, field_number, identity_lacks, identity_numbers, row};
@@ -24,9 +25,10 @@ pub enum Verdict {
     OtherType,
 }
 
-/// Everything the library says of one image, the manufacturing block in both modes; which number asked for the strict one.
-#[derive(PartialEq)]
+/// Everything the library says of one image, the manufacturing block in both modes; under which edition, and which number asked for the strict one.
+#[derive(Clone, Copy, PartialEq)]
 pub struct Answers {
+    edition: u32,
     words: [i32; 5],
     report: [u8; ours::REPORT_MAX],
     identity: [u32; 18],
@@ -42,7 +44,7 @@ pub type Question<T> = fn(&[u8], &mut [T]) -> i32;
 
 /// The calls that ask one thing of an image or of a state.
 struct Questions {
-    lint: Question<u8>,
+    lint: fn(&[u8], u32, &mut [u8]) -> i32,
     identity: Question<u32>,
     timings: Question<u32>,
     cas: Question<u16>,
@@ -62,7 +64,8 @@ const OF_IMAGE: Questions = Questions {
 };
 
 const OF_STATE: Questions = Questions {
-    lint: ours::pieces_lint,
+    // A state has its edition.
+    lint: |state, _, report| ours::pieces_lint(state, report),
     identity: ours::pieces_identity,
     timings: ours::pieces_timings,
     cas: ours::pieces_cas_latencies,
@@ -72,8 +75,16 @@ const OF_STATE: Questions = Questions {
 };
 
 impl Answers {
+    /// Under edition 2.
     pub fn of_image(image: &[u8], strict: u32) -> Self {
-        Self::of(image, &OF_IMAGE, strict)
+        Self::of(image, &OF_IMAGE, ours::EDITION_2, strict)
+    }
+
+    /// The same under edition 1. Lint alone is asked again: no other call on an image takes an edition.
+    pub fn under_edition_1(&self, image: &[u8]) -> Self {
+        let mut a = Answers { edition: ours::EDITION_1, report: [STAY; ours::REPORT_MAX], ..*self };
+        a.words[0] = ours::lint(image, a.edition, &mut a.report);
+        a
     }
 
     /// The flags of the report and the codes of its findings.
@@ -82,8 +93,9 @@ impl Answers {
     }
 
     #[inline(always)]
-    fn of(from: &[u8], ask: &Questions, strict: u32) -> Self {
+    fn of(from: &[u8], ask: &Questions, edition: u32, strict: u32) -> Self {
         let mut a = Answers {
+            edition,
             words: [0; 5],
             report: [STAY; ours::REPORT_MAX],
             identity: [STAY.into(); 18],
@@ -95,7 +107,7 @@ impl Answers {
             crc: (ask.crc)(from),
         };
         a.words = [
-            (ask.lint)(from, &mut a.report),
+            (ask.lint)(from, edition, &mut a.report),
             (ask.identity)(from, &mut a.identity),
             (ask.timings)(from, &mut a.timings),
             (ask.cas)(from, &mut a.cas),
@@ -285,15 +297,25 @@ fn compare_findings(image: &[u8], ours: &Answers, flags: u8, verdict: Verdict) -
         }
     });
     severe?;
-    let (got, findings) = parsed(ours.words[0], &ours.report)?;
+    reported(ours, flags, &rust)
+}
+
+/// The report has these flags and these findings, and no other byte of it is written.
+pub fn reported(ours: &Answers, flags: u8, wanted: &[Row]) -> Result<(), String> {
+    let (got, findings) = findings(ours)?;
     if got != flags {
-        return Err(format!("report: flags {got}, the Rust's would be {flags}"));
+        return Err(format!("edition {}: flags {got}, should be {flags}", ours.edition));
     }
-    if findings != rust {
-        let i = findings.iter().zip(&rust).take_while(|(a, b)| a == b).count();
-        return Err(format!("finding {i}: {:?}, the Rust's {:?}", findings.get(i), rust.get(i)));
+    if findings != wanted {
+        let i = findings.iter().zip(wanted).take_while(|(a, b)| a == b).count();
+        return Err(format!("edition {}: finding {i}: {:?}, should be {:?}", ours.edition, findings.get(i), wanted.get(i)));
     }
     read_back(&ours.report[..ours.words[0] as usize], got, &findings)
+}
+
+/// The flags of the report, and its findings.
+pub fn findings(ours: &Answers) -> Result<(u8, Vec<Row>), String> {
+    parsed(ours.words[0], &ours.report).map_err(|item| format!("edition {}: {item}", ours.edition))
 }
 
 /// How an image is cut into pieces.
@@ -305,11 +327,11 @@ pub enum Cut {
     Bursts(usize),
 }
 
-/// Feeds an image in pieces. Each piece is also sent too early and, once taken, a second time; both must be refused 5 with the
-/// count and change nothing. In the end every answer must be that for the whole image.
+/// Feeds an image in pieces, to a state of the edition under which the whole image was asked. Each piece is also sent too early and, once taken, a
+/// second time; both must be refused 5 with the count and change nothing. In the end every answer must be that for the whole image.
 pub fn feed(image: &[u8], cut: Cut, rng: &mut Rng, whole: &Answers) -> Result<(), String> {
     let mut state = [STAY; ours::STATE_SIZE];
-    expect("fresh", 0, ours::pieces_fresh(&mut state), 0)?;
+    expect("fresh", 0, ours::pieces_fresh(&mut state, whole.edition), 0)?;
     let mut at = 0;
     let mut first = true;
     while at < image.len() {
@@ -339,8 +361,13 @@ pub fn feed(image: &[u8], cut: Cut, rng: &mut Rng, whole: &Answers) -> Result<()
     expect("the count taken", at, ours::pieces_taken(&state), at as i32)?;
     manufacturing::too_short(image, &state, whole.strict, rng)?;
     crc::too_short(&state, rng)?;
-    let answers = Answers::of(&state, &OF_STATE, whole.strict);
-    if answers == *whole { Ok(()) } else { Err("pieces: an answer is not that for the whole image".into()) }
+    editions::refused(image, &mut state, rng)?;
+    let answers = Answers::of(&state, &OF_STATE, whole.edition, whole.strict);
+    if answers == *whole {
+        Ok(())
+    } else {
+        Err(format!("pieces: an answer is not that for the whole image under edition {}", whole.edition))
+    }
 }
 
 /// One byte more than there is room for is refused 6.

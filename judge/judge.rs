@@ -4,6 +4,7 @@
 
 mod compare;
 mod crc;
+mod editions;
 mod images;
 mod manufacturing;
 mod numbers;
@@ -12,7 +13,8 @@ mod ours;
 use compare::{Answers, Cut, Verdict};
 use crc::Sound;
 use images::{
-    BLOCK, CYCLE_TIMES, DATE, MODULES, PART, PROFILES, RESERVED, Rng, TIME_OFFSETS, put_block, put_cas, put16, seal, sound_images,
+    BLOCK, CYCLE_TIMES, DATE, FAST_TIMES, MODULES, PART, PROFILES, RESERVED, Rng, TIME_OFFSETS, put_block, put_cas, put16, seal,
+    sound_images,
 };
 use std::io::IsTerminal;
 use std::process::ExitCode;
@@ -39,6 +41,9 @@ struct Judge {
     identities: u64,
     timings: u64,
     findings: [u64; 10],
+    /// How many images have a finding more under edition 1, by their data rate; and of those in pieces.
+    added: [u64; editions::ADDED.len()],
+    added_fed: [u64; editions::ADDED.len()],
     /// How many manufacturing blocks decode, by the length of their part number; how many of them the strict mode takes.
     parts: [u64; 31],
     strict: u64,
@@ -78,6 +83,8 @@ impl Judge {
             identities: 0,
             timings: 0,
             findings: [0; 10],
+            added: [0; editions::ADDED.len()],
+            added_fed: [0; editions::ADDED.len()],
             parts: [0; 31],
             strict: 0,
             crcs: [0; 2],
@@ -152,6 +159,14 @@ impl Judge {
             Ok(Verdict::OtherType) => self.other += 1,
             Err(item) => self.difference(image, &item),
         }
+        let first = ours.under_edition_1(image);
+        let added = editions::compare(image, &ours, &first).unwrap_or_else(|item| {
+            self.difference(image, &item);
+            None
+        });
+        if let Some(rate) = added {
+            self.added[rate] += 1;
+        }
         match manufacturing::compare(image, &ours.block) {
             Ok(manufacturing::Verdict::Same) => {}
             Ok(manufacturing::Verdict::PartCut) => self.part_cut += 1,
@@ -175,8 +190,13 @@ impl Judge {
             if let Some(n) = self.crcs_fed.get_mut(ours.crc as usize) {
                 *n += 1;
             }
-            if let Err(item) = compare::feed(image, cut, rng, &ours) {
-                self.difference(image, &item);
+            if let Some(rate) = added {
+                self.added_fed[rate] += 1;
+            }
+            for whole in [&ours, &first] {
+                if let Err(item) = compare::feed(image, cut, rng, whole) {
+                    self.difference(image, &item);
+                }
             }
         }
         self.tally(&ours);
@@ -353,6 +373,21 @@ fn every_time(judge: &mut Judge) {
     }
 }
 
+/// Every cycle time where the two editions of the ladder differ, and around, on every base: as long as pieces can be, the base block alone, with timings
+/// and no identity, and without timings, with the cycle time or without.
+fn fast_times(judge: &mut Judge) {
+    let mut image = [0; ours::IMAGE_MAX];
+    for base in bases() {
+        image[..PROFILES].copy_from_slice(&base);
+        for tck in 210..=330 {
+            put16(&mut image, 20, tck);
+            for len in [ours::IMAGE_MAX, 512, 94, 93, 20] {
+                judge.see(&image[..len]);
+            }
+        }
+    }
+}
+
 /// Each bit of the CAS set alone against each CAS latency that a time of 16 bits can have at this cycle time.
 fn cas_bits(judge: &mut Judge) {
     let mut image = bases()[0];
@@ -495,7 +530,18 @@ fn noise(rng: &mut Rng, image: &mut [u8]) {
     }
 }
 
-/// Random images, each made of the seed and its number.
+/// A fast cycle time; of half of the images tAA, tRCD and tRP are whole numbers of it.
+fn fast(rng: &mut Rng, image: &mut [u8]) {
+    let tck = rng.pick(&FAST_TIMES);
+    put16(image, 20, tck);
+    if rng.below(2) == 0 {
+        for offset in [30, 32, 34] {
+            put16(image, offset, tck * (20 + 2 * rng.below(40) as u16));
+        }
+    }
+}
+
+/// Random images, each made of the seed and its number. One in sixteen gets a fast cycle time besides, since few have one by chance.
 fn random(judge: &mut Judge) {
     let bases = bases();
     let mut image = vec![0; ours::IMAGE_MAX + 8];
@@ -519,6 +565,9 @@ fn random(judge: &mut Judge) {
                 let bent = burst(known, rng.below(PROFILES - 32), 2 * rng.below(2) + 1);
                 known[..bent.len()].copy_from_slice(&bent);
             }
+        }
+        if rng.below(16) == 0 {
+            fast(&mut rng, known);
         }
         judge.see(&image[..len]);
     }
@@ -550,9 +599,14 @@ fn untried(judge: &Judge) -> Vec<String> {
         ("two reads of which neither is", judge.reads[Sound::Neither as usize]),
     ];
     let codes = (1..9).map(|code| (format!("code {code}"), judge.findings[code]));
+    let rates = editions::ADDED.into_iter().zip(judge.added.into_iter().zip(judge.added_fed));
+    let added = rates.flat_map(|(rate, (whole, fed))| {
+        let more = format!("a finding more under edition 1 at {rate} MT/s");
+        [(more.clone(), whole), (more + ", in pieces", fed)]
+    });
     let parts = judge.parts.into_iter().enumerate().map(|(len, n)| (format!("a part number of {len} characters"), n));
     let unfit = judge.unfit.iter().map(|family| (format!("a CRC that fits among the {family}"), 0));
-    let all = seen.into_iter().map(|(what, n)| (what.to_string(), n)).chain(codes).chain(parts).chain(unfit);
+    let all = seen.into_iter().map(|(what, n)| (what.to_string(), n)).chain(codes).chain(added).chain(parts).chain(unfit);
     all.filter(|(_, n)| *n == 0).map(|(what, _)| what).collect()
 }
 
@@ -576,6 +630,7 @@ fn main() -> ExitCode {
     judge.family("reserved pairs", reserved_pairs);
     judge.family("cycle times", cycle_times);
     judge.family("every time", every_time);
+    judge.family("fast times", fast_times);
     judge.family("CAS bits", cas_bits);
     judge.family("bursts", bursts);
     judge.family("single bits", single_bits);
@@ -585,6 +640,8 @@ fn main() -> ExitCode {
     judge.family("random", random);
     let codes: Vec<String> = (1..10).map(|code| format!("{} of code {code}", judge.findings[code])).collect();
     eprintln!("judge: {} identities and {} timings decoded; findings: {}", judge.identities, judge.timings, codes.join(", "));
+    let rates: Vec<String> = editions::ADDED.iter().zip(judge.added).map(|(rate, n)| format!("{n} at {rate} MT/s")).collect();
+    eprintln!("judge: findings that edition 1 has more: {}", rates.join(", "));
     eprintln!("judge: {} manufacturing blocks decoded, {} of them in the strict mode too", judge.blocks(), judge.strict);
     let [both, first, second, neither] = judge.reads;
     eprintln!(
@@ -593,11 +650,12 @@ fn main() -> ExitCode {
         judge.crcs[1], judge.crcs[0], judge.bent, judge.bent_seen
     );
     println!(
-        "judge: {} images, {} of them in pieces too, {} listed (row 1, short images), {} listed (row 2, other device types), \
-         {} listed (row 6, cut part numbers), {} listed (row 7, part numbers not ASCII), {} listed (row 8, zero bytes behind them), \
-         {} listed (row 9, CRCs of short images), {} differences, seed {}, {} s",
+        "judge: {} images, {} of them in pieces too, {} with a finding more under edition 1, {} listed (row 1, short images), \
+         {} listed (row 2, other device types), {} listed (row 6, cut part numbers), {} listed (row 7, part numbers not ASCII), \
+         {} listed (row 8, zero bytes behind them), {} listed (row 9, CRCs of short images), {} differences, seed {}, {} s",
         judge.images,
         judge.fed,
+        judge.added.iter().sum::<u64>(),
         judge.short,
         judge.other,
         judge.part_cut,

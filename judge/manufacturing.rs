@@ -34,7 +34,7 @@ pub const OF_IMAGE: Questions = Questions { numbers: ours::manufacturing, part: 
 pub const OF_STATE: Questions = Questions { numbers: ours::pieces_manufacturing, part: ours::pieces_part_number };
 
 /// All that the library says of a block. The lists are longer than they need be: what is behind must stay too.
-#[derive(PartialEq)]
+#[derive(Clone, Copy, PartialEq)]
 pub struct Answers {
     words: [i32; 3],
     plain: [u32; MANUFACTURING_COUNT + 2],

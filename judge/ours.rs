@@ -6,6 +6,10 @@
 
 use std::ffi::c_void;
 
+/// The two editions of the ladder. The Rust has the second one's.
+pub const EDITION_1: u32 = 1;
+pub const EDITION_2: u32 = 2;
+
 pub const REPORT_MAX: usize = 215;
 pub const REPORT_NUMBERS: usize = 91;
 pub const STATE_SIZE: usize = 557;
@@ -15,7 +19,7 @@ pub const PART_NUMBER_MAX: usize = 30;
 
 mod c {
     unsafe extern "C" {
-        pub fn roostcord_lint(image: *const u8, n: usize, report: *mut u8, room: usize) -> i32;
+        pub fn roostcord_lint(image: *const u8, n: usize, edition: u32, report: *mut u8, room: usize) -> i32;
         pub fn roostcord_report(report: *const u8, n: usize, out: *mut u32, room: usize) -> i32;
         pub fn roostcord_identity(image: *const u8, n: usize, out: *mut u32, room: usize) -> i32;
         pub fn roostcord_timings(image: *const u8, n: usize, out: *mut u32, room: usize) -> i32;
@@ -25,7 +29,7 @@ mod c {
         pub fn roostcord_part_number(image: *const u8, n: usize, out: *mut u8, room: usize) -> i32;
         pub fn roostcord_crc(image: *const u8, n: usize) -> i32;
         pub fn roostcord_sound_read(first: *const u8, n: usize, second: *const u8, second_len: usize) -> i32;
-        pub fn roostcord_pieces_fresh(state: *mut u8, n: usize) -> i32;
+        pub fn roostcord_pieces_fresh(state: *mut u8, n: usize, edition: u32) -> i32;
         pub fn roostcord_pieces_feed(state: *mut u8, n: usize, offset: usize, piece: *const u8, piece_len: usize) -> i32;
         pub fn roostcord_pieces_taken(state: *const u8, n: usize) -> i32;
         pub fn roostcord_pieces_lint(state: *const u8, n: usize, report: *mut u8, room: usize) -> i32;
@@ -51,7 +55,6 @@ macro_rules! questions {
 }
 
 questions! {
-    lint = roostcord_lint(u8);
     report = roostcord_report(u32);
     identity = roostcord_identity(u32);
     timings = roostcord_timings(u32);
@@ -64,6 +67,13 @@ questions! {
     pieces_cas_latencies = roostcord_pieces_cas_latencies(u16);
     pieces_clocks = roostcord_pieces_clocks(u32);
     pieces_part_number = roostcord_pieces_part_number(u8);
+}
+
+/// The question that has an edition: 1 or 2.
+#[inline(always)]
+pub fn lint(image: &[u8], edition: u32, report: &mut [u8]) -> i32 {
+    // SAFETY: both slices are valid for their lengths, and the second is borrowed alone.
+    unsafe { c::roostcord_lint(image.as_ptr(), image.len(), edition, report.as_mut_ptr(), report.len()) }
 }
 
 /// The two questions that have a mode: strict is any number but 0.
@@ -100,9 +110,9 @@ pub fn sound_read(first: &[u8], second: &[u8]) -> i32 {
 }
 
 #[inline(always)]
-pub fn pieces_fresh(state: &mut [u8]) -> i32 {
+pub fn pieces_fresh(state: &mut [u8], edition: u32) -> i32 {
     // SAFETY: the slice is valid for its length and borrowed alone.
-    unsafe { c::roostcord_pieces_fresh(state.as_mut_ptr(), state.len()) }
+    unsafe { c::roostcord_pieces_fresh(state.as_mut_ptr(), state.len(), edition) }
 }
 
 #[inline(always)]

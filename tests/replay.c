@@ -1,5 +1,6 @@
 /* Replays the Rust linter's answers on libroostcord.a: rebuilds each image of a list, asks the library over C, whole and fed in pieces, and
- * compares every number with the list's. The list comes on standard input; crates/replay/src/main.rt says how it is built.
+ * compares every number with the list's. The list comes on standard input; crates/replay/src/main.rt says how it is built. The Rust has the
+ * ladder of edition 2, so all is asked under that.
  *
  * What has no C call is not compared but read over and counted: the findings of a rated profile. What the list does not have is the CAS set
  * as a mask, which is held here to the list's latencies, and the clock table, which the Rust does not have.
@@ -121,14 +122,14 @@ static void ask_whole(const uint8_t *image, size_t n, struct ours *o) {
   o->identity_answer = roostcord_identity(image, n, o->identity, ROOSTCORD_IDENTITY_COUNT);
   o->timings_answer = roostcord_timings(image, n, o->timings, ROOSTCORD_TIMINGS_COUNT);
   o->cas_answer = roostcord_cas_latencies(image, n, o->cas, ROOSTCORD_CAS_LATENCIES_MAX);
-  o->lint_answer = roostcord_lint(image, n, o->report, ROOSTCORD_REPORT_MAX);
+  o->lint_answer = roostcord_lint(image, n, ROOSTCORD_EDITION_2, o->report, ROOSTCORD_REPORT_MAX);
   read_report(o);
 }
 
 /* The same of an image that is fed in bursts of a size, each sent twice. Answers whether every burst was taken once. */
 static bool ask_pieces(const uint8_t *image, size_t n, size_t burst, struct ours *o) {
   uint8_t state[ROOSTCORD_STATE_SIZE];
-  bool taken = roostcord_pieces_fresh(state, sizeof state) == 0;
+  bool taken = roostcord_pieces_fresh(state, sizeof state, ROOSTCORD_EDITION_2) == 0;
   for (size_t at = 0; at < n; at += burst) {
     size_t size = n - at < burst ? n - at : burst;
     int32_t end = (int32_t)(at + size);
