@@ -4,7 +4,7 @@
 //!
 //! The report form has no severity, so the Rust's severity of each finding is held against document 01's for its code; and so is
 //! the severity that the library answers when it reads the report back, with all else that the report says. The clock table,
-//! which the Rust does not have, is held against document 01's definition of it over the Rust's times.
+//! which the Rust does not have, is held against document 02's formula over the Rust's times.
 
 use crate::crc;
 use crate::editions;
@@ -223,14 +223,14 @@ fn timing_numbers(t: &Timings) -> [u32; 30] {
     out
 }
 
-/// Document 01: the smallest whole n with n * tCK at or above the time, refused 7 with tCK 0.
+/// Document 02: (time * 997 / tCK + 1000) / 1000, each division rounded down; refused 7 with tCK 0. The product of a long time needs 64 bits.
 fn clock_table(t: &Timings) -> Result<[u32; 9], i32> {
     let tck = t.tckavg_min.0;
     if tck == 0 {
         return Err(refusal(7, 0, 0));
     }
     let times = [t.taa, t.trcd, t.trp, t.tras, t.trc, t.twr, t.trfc1, t.trfc2, t.trfcsb];
-    Ok(times.map(|time| time.0.div_ceil(tck)))
+    Ok(times.map(|time| ((u64::from(time.0) * 997 / u64::from(tck) + 1000) / 1000) as u32))
 }
 
 /// Document 01's severity of each code; none has code 0.

@@ -18,6 +18,8 @@
  * count of 0), a uint32_t or uint16_t pointer is aligned as its type asks, no two lent buffers of one call overlap, and nothing
  * else writes a lent buffer, or reads one that the call writes, while the call runs.
  *
+ * From 2.0.0 to 2.1.0: roostcord_clocks and roostcord_pieces_clocks round as JEDEC does, so a count may be lower than it was, and a time
+ * of 0 counts 1. No call is new, and all other calls answer as they did.
  * From 1.3.0 to 2.0.0: roostcord_lint and roostcord_pieces_fresh take the edition of the ladder, one argument more, so a caller must be
  * changed and compiled anew; refusal 14 is new. With ROOSTCORD_EDITION_2 both answer as they did, and so do all other calls. A state that
  * was made by 1.2.0 or 1.3.0 is one of edition 2.
@@ -34,9 +36,9 @@
 /*---- the version of this header ----*/
 
 #define ROOSTCORD_VERSION_MAJOR 2
-#define ROOSTCORD_VERSION_MINOR 0
+#define ROOSTCORD_VERSION_MINOR 1
 #define ROOSTCORD_VERSION_PATCH 0
-/* as one number, which grows with every version, and as text: "2.0.0" */
+/* as one number, which grows with every version, and as text: "2.1.0" */
 #define ROOSTCORD_VERSION (ROOSTCORD_VERSION_MAJOR * 65536 + ROOSTCORD_VERSION_MINOR * 256 + ROOSTCORD_VERSION_PATCH)
 #define ROOSTCORD_VERSION_STRING \
   ROOSTCORD_TEXT(ROOSTCORD_VERSION_MAJOR) "." ROOSTCORD_TEXT(ROOSTCORD_VERSION_MINOR) "." ROOSTCORD_TEXT(ROOSTCORD_VERSION_PATCH)
@@ -325,7 +327,8 @@ ROOSTCORD_MUST_USE int32_t roostcord_timings(const uint8_t *image, size_t image_
  * Refuses 4 where out_len is less than ROOSTCORD_CAS_LATENCIES_MAX, however few there are; 1 as roostcord_timings does. */
 ROOSTCORD_MUST_USE int32_t roostcord_cas_latencies(const uint8_t *image, size_t image_len, uint16_t *out, size_t out_len);
 
-/* Counts nine times of an image in clocks of tCKmin, rounded up; ROOSTCORD_CLOCKS_.. are their places.
+/* Counts nine times of an image in clocks of tCKmin; ROOSTCORD_CLOCKS_.. are their places. A count is (time * 997 / tCKmin + 1000) / 1000,
+ * each division rounded down, as JEDEC rounds it; so a time of 0 counts 1.
  * Answers ROOSTCORD_CLOCKS_COUNT.
  * Refuses 4 where out_len is less than that; 1 as roostcord_timings does; 7. */
 ROOSTCORD_MUST_USE int32_t roostcord_clocks(const uint8_t *image, size_t image_len, uint32_t *out, size_t out_len);

@@ -1,14 +1,15 @@
--- The count of the clock table is the smallest whole n with n * tCK at or above the time, as document 01 words it. Assumes nothing.
-use Prim.Native.Nat.{ℕ, _+_, _*_, _/_, _%_, _<_}
-use mathlib.Core.Path.{_≡_}
+-- The count of the clock table held against the smallest whole n with n * tCK at or above the time, which document 01 had before 2026-06: it is never
+-- above that n, and below it by no more than three thousandths of n - 1, rounded up; for each n that much does occur. Assumes nothing.
+use Prim.Native.Nat.{ℕ, _+_, _*_, _/_, _%_, _<_, _≤_}
+use mathlib.Core.Path.{_≡_, refl}
 use native.Mathlib.Omega.{arith}
-use native.Mathlib.Nat.{div-add-mod', mod-lt, add-mul, le-of-mul-le-mul-right, lt-of-mul-lt-mul-right}
+use native.Mathlib.Nat.{div-add-mod', div-mul-le-self, div-lt-iff-lt-mul, zero-div, mod-lt, add-mul, mul-assoc, mul-left-comm, le-of-mul-le-mul-right, lt-of-mul-lt-mul-right}
 use lib.Dec.{eqb}
 use borrow.Author.Tests.{eqb-true, eqb-false}
 use Rattle.reading.proofs.Picked.{by-test}
-use Rattle.decoders.specs.Clocks.{Smallest, clocksOf}
+use Rattle.decoders.specs.Clocks.{Smallest, smallestOf, clocksOf}
 
-pub smallest : (tck time : ℕ) → 0 < tck → Smallest tck time (clocksOf tck time)
+pub smallest : (tck time : ℕ) → 0 < tck → Smallest tck time (smallestOf tck time)
 smallest tck time pos =
     let q = time / tck in
     let whole : q * tck + time % tck ≡ time = div-add-mod' time tck in
@@ -31,3 +32,55 @@ smallest tck time pos =
           let before : q < m = lt-of-mul-lt-mul-right tck short in
           omega arith;
     }))
+
+-- the count is itself a smallest one: of the n with n * tCK above 997 thousandths of the time
+pub guarded : (tck time : ℕ) → 0 < tck → Smallest (1000 * tck) (time * 997 + 1) (clocksOf tck time)
+guarded tck time pos =
+    let n = clocksOf tck time in
+    let above : time * 997 / tck < n * 1000 = omega arith in
+    let over : time * 997 < n * 1000 * tck = div-lt-iff-lt-mul pos .0 above in
+    let same : n * 1000 * tck ≡ n * (1000 * tck) = mul-assoc n 1000 tck in
+    record {
+      reaches = omega (arith, over, same);
+      least = λ m h.
+          let also : m * 1000 * tck ≡ m * (1000 * tck) = mul-assoc m 1000 tck in
+          let below : time * 997 / tck < m * 1000 = div-lt-iff-lt-mul pos .1 (omega (arith, also)) in
+          omega arith;
+    }
+
+module _ (tck time : ℕ) (pos : 0 < tck) where
+  pub never-above : 0 < time → clocksOf tck time ≤ smallestOf tck time
+  never-above some =
+      let n = smallestOf tck time in
+      let long : time ≤ n * tck = smallest tck time pos .reaches in
+      let same : n * (1000 * tck) ≡ 1000 * (n * tck) = mul-left-comm n 1000 tck in
+      guarded tck time pos .least n (omega (arith, long, same))
+
+  pub near : smallestOf tck time ≤ clocksOf tck time + (3 * smallestOf tck time + 996) / 1000
+  near =
+      let q = time / tck in
+      let n = clocksOf tck time in
+      let fit : q * tck ≤ time = div-mul-le-self time tck in
+      let long : time * 997 + 1 ≤ n * (1000 * tck) = guarded tck time pos .reaches in
+      let left : 997 * q * tck ≡ 997 * (q * tck) = mul-assoc 997 q tck in
+      let right : n * 1000 * tck ≡ n * (1000 * tck) = mul-assoc n 1000 tck in
+      let less : 997 * q < n * 1000 = lt-of-mul-lt-mul-right tck (omega (arith, fit, long, left, right)) in
+      by-test (eqb (time % tck) 0) (λ e. rw e (omega (arith, less))) (λ e. rw e (omega (arith, less)))
+
+pub zero-is-one : (tck : ℕ) → clocksOf tck 0 ≡ 1
+zero-is-one tck = let none : 0 / tck ≡ 0 = zero-div tck in omega (arith, none)
+
+-- the bound is reached for each n = m + 1: with tCK 1000 and one picosecond above m cycles
+module _ (m : ℕ) where
+  pub reached-at : smallestOf 1000 (m * 1000 + 1) ≡ m + 1
+  reached-at = let one : (m * 1000 + 1) % 1000 ≡ 1 = omega arith in rw one (omega arith)
+
+  pub reached : clocksOf 1000 (m * 1000 + 1) + (3 * (m + 1) + 996) / 1000 ≡ m + 1
+  reached = omega arith
+
+-- the request's own numbers
+pub asked-before : smallestOf 312 17500 ≡ 57
+asked-before = refl
+
+pub asked : clocksOf 312 17500 ≡ 56
+asked = refl

@@ -1,4 +1,4 @@
--- Document 01, "Clock table": the smallest whole n with n * tCK at or above the time. Assumes nothing.
+-- Document 02, 2026-06: a time in clocks is (time * 997 / tCK + 1000) / 1000, each division rounded down. Assumes nothing.
 use Prim.Native.Nat.{ℕ, _+_, _*_, _/_, _%_, _≤_}
 use lib.Dec.{eqb}
 use Rattle.reading.specs.Pick.{pick}
@@ -6,14 +6,8 @@ use Rattle.reading.specs.Said.{Said, gives, refused}
 use Rattle.decoders.specs.declared.timing.Timings.{Timings}
 use Rattle.decoders.specs.declared.clocks.ClockTable.{ClockTable}
 
--- how document 01 words it: proofs/Least.antt shows it of the count below
-pub record Smallest (tck time n : ℕ) : Type 0 where
-  pub reaches : time ≤ n * tck
-  pub least : (m : ℕ) → time ≤ m * tck → n ≤ m
-
--- the whole cycles that fit in the time, and one more where they fall short of it
 abbrev pub clocksOf : (tck time : ℕ) → ℕ
-clocksOf tck time = time / tck + pick (eqb (time % tck) 0) 0 1
+clocksOf tck time = (time * 997 / tck + 1000) / 1000
 
 -- of the nine times; refusal 7 with tCK 0
 unfoldable pub clockTableOf : Timings → Said ClockTable
@@ -30,3 +24,12 @@ clockTableOf t =
       trfc2 = clocksOf (t .«tckavg_min» .0) (t .trfc2 .0);
       trfcsb = clocksOf (t .«tckavg_min» .0) (t .trfcsb .0);
     }))
+
+-- What document 01 said before, kept to hold the count above against it (proofs/Least.antt): the smallest n with n * tCK at or above the time.
+pub record Smallest (tck time n : ℕ) : Type 0 where
+  pub reaches : time ≤ n * tck
+  pub least : (m : ℕ) → time ≤ m * tck → n ≤ m
+
+-- that n: the whole cycles that fit in the time, and one more where they fall short of it
+abbrev pub smallestOf : (tck time : ℕ) → ℕ
+smallestOf tck time = time / tck + pick (eqb (time % tck) 0) 0 1

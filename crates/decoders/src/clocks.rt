@@ -25,7 +25,7 @@ pub enum ClockTableAnswer {
     Refused(Refusal),
 }
 
-// For each of the nine times the smallest whole count of cycles that is not shorter.
+// For each of the nine times its count of clock cycles.
 pub fn clock_table(timings: Timings) -> ClockTableAnswer
     ensures { λ r. ⌜ clockTableSaid r ≡ clockTableOf «timings» ⌝ }
 {
@@ -46,14 +46,10 @@ pub fn clock_table(timings: Timings) -> ClockTableAnswer
     })
 }
 
-// The smallest n with n * tck at or above the time.
+// A time in clocks, as JEDEC rounds it; the product needs more than 32 bits, the count does not.
 fn cycles(time: Picoseconds, tck: u32) -> u32
     requires { ⌜ 0 < tck ⌝ }
     ensures { λ r. ⌜ r ≡ clocksOf tck (time .0) ⌝ }
 {
-    let whole = time.0 / tck;
-    if time.0 % tck == 0 {
-        return whole;
-    }
-    whole + 1
+    ((time.0 as u64 * 997 / tck as u64 + 1000) / 1000) as u32
 }

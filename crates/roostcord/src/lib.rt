@@ -49,7 +49,7 @@ const STATE_SIZE: usize = 2 + KEPT;
 pub extern "C" fn roostcord_version() -> u32
     ensures { λ r. ⌜ r ≡ libraryVersion ⌝ }
 {
-    0x020000
+    0x020100
 }
 
 // Lints an image under an edition, 1 or 2, and writes its report: how many bytes.
