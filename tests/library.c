@@ -1216,6 +1216,43 @@ static void editions(const uint8_t *sample, size_t n) {
   edition_reports(image, n);
 }
 
+/* The nine times of an image in clocks, by document 02. A count is also the smallest n of which n * tCK is above 997 thousandths of the time,
+ * and it lies as far below the smallest n with n * tCK at or above the time, which was the count before 2.1.0, as it may. */
+static void clocks_by(unsigned tck, const unsigned *words) {
+  uint8_t image[TIMINGS_NEED] = {0};
+  uint32_t list[ROOSTCORD_CLOCKS_COUNT];
+  set_tck(image, tck);
+  for (size_t k = 0; k < ROOSTCORD_CLOCKS_COUNT; k++) image[30 + 2 * k] = (uint8_t)words[k], image[31 + 2 * k] = (uint8_t)(words[k] >> 8);
+  CHECK(roostcord_clocks(image, sizeof image, list, ROOSTCORD_CLOCKS_COUNT) == ROOSTCORD_CLOCKS_COUNT);
+  for (size_t k = 0; k < ROOSTCORD_CLOCKS_COUNT; k++) {
+    uint64_t time = (uint64_t)(words[k] & 0xFFFF) * (k < ROOSTCORD_CLOCKS_TRFC1 ? 1 : 1000), n = list[k], before = (time + tck - 1) / tck;
+    CHECK(n == (time * 997 / tck + 1000) / 1000);
+    CHECK(n * tck * 1000 > time * 997 && (n - 1) * tck * 1000 <= time * 997);
+    CHECK((time == 0 ? n == 1 : n <= before) && before <= n + (3 * before + 996) / 1000);
+  }
+}
+
+/* Times at and beside whole numbers of clocks for every tCK, and some counts that are known. */
+static void every_clock(void) {
+  static const uint32_t known[][3] = {{312, 17500, 56}, {416, 16000, 39}, {416, 16640, 40}, {416, 295, 1}, {416, 0, 1}, {65535, 65535, 1}, {1, 65535, 65339}};
+  enum { LONG = 65338396 }; /* 65535000 ps with tCK 1: the product has 36 bits */
+  unsigned words[ROOSTCORD_CLOCKS_COUNT];
+  for (unsigned tck = 1; tck < 65536; tck++)
+    for (unsigned more = 0; more < 3; more++) {
+      for (unsigned k = 0; k < ROOSTCORD_CLOCKS_COUNT; k++) words[k] = tck * (k + 1) + more - 1;
+      clocks_by(tck, words);
+    }
+  for (size_t i = 0; i < sizeof known / sizeof *known; i++) {
+    uint8_t image[TIMINGS_NEED] = {0};
+    uint32_t list[ROOSTCORD_CLOCKS_COUNT];
+    set_tck(image, known[i][0]);
+    for (size_t at = 30; at < 48; at += 2) image[at] = (uint8_t)known[i][1], image[at + 1] = (uint8_t)(known[i][1] >> 8);
+    CHECK(roostcord_clocks(image, sizeof image, list, ROOSTCORD_CLOCKS_COUNT) == ROOSTCORD_CLOCKS_COUNT);
+    for (size_t k = 0; k < ROOSTCORD_CLOCKS_TRFC1; k++) CHECK(list[k] == known[i][2]);
+    if (known[i][0] == 1) CHECK(list[ROOSTCORD_CLOCKS_TRFC1] == LONG && list[ROOSTCORD_CLOCKS_TRFC2] == LONG && list[ROOSTCORD_CLOCKS_TRFCSB] == LONG);
+  }
+}
+
 int main(int argc, char **argv) {
   static uint8_t image[2 * IMAGE_MAX];
   if (argc < 2) {
@@ -1258,6 +1295,7 @@ int main(int argc, char **argv) {
   }
   largest_report();
   known_crcs();
+  every_clock();
   fresh_states();
   unknown_states();
   random_states();
