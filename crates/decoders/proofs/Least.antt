@@ -3,7 +3,7 @@
 use Prim.Native.Nat.{ℕ, _+_, _*_, _/_, _%_, _<_, _≤_}
 use mathlib.Core.Path.{_≡_, refl}
 use native.Mathlib.Omega.{arith}
-use native.Mathlib.Nat.{div-add-mod', div-mul-le-self, div-lt-iff-lt-mul, zero-div, mod-lt, add-mul, mul-assoc, mul-left-comm, le-of-mul-le-mul-right, lt-of-mul-lt-mul-right}
+use native.Mathlib.Nat.{div-add-mod', div-mul-le-self, div-lt-iff-lt-mul, div-div-eq-div-mul, zero-div, mod-lt, add-mul, le-of-mul-le-mul-right, lt-of-mul-lt-mul-right}
 use lib.Dec.{eqb}
 use borrow.Author.Tests.{eqb-true, eqb-false}
 use Rattle.reading.proofs.Picked.{by-test}
@@ -33,19 +33,18 @@ smallest tck time pos =
           omega arith;
     }))
 
+-- two divisions are one by the product
+pub at-once : (tck time : ℕ) → clocksOf tck time ≡ time * 997 / (tck * 1000) + 1
+at-once tck time = let both : time * 997 / tck / 1000 ≡ time * 997 / (tck * 1000) = div-div-eq-div-mul (time * 997) tck 1000 in omega (arith, both)
+
 -- the count is itself a smallest one: of the n with n * tCK above 997 thousandths of the time
-pub guarded : (tck time : ℕ) → 0 < tck → Smallest (1000 * tck) (time * 997 + 1) (clocksOf tck time)
+pub guarded : (tck time : ℕ) → 0 < tck → Smallest (tck * 1000) (time * 997 + 1) (clocksOf tck time)
 guarded tck time pos =
-    let n = clocksOf tck time in
-    let above : time * 997 / tck < n * 1000 = omega arith in
-    let over : time * 997 < n * 1000 * tck = div-lt-iff-lt-mul pos .0 above in
-    let same : n * 1000 * tck ≡ n * (1000 * tck) = mul-assoc n 1000 tck in
+    let once = at-once tck time in
+    let most : 0 < tck * 1000 = omega arith in
     record {
-      reaches = omega (arith, over, same);
-      least = λ m h.
-          let also : m * 1000 * tck ≡ m * (1000 * tck) = mul-assoc m 1000 tck in
-          let below : time * 997 / tck < m * 1000 = div-lt-iff-lt-mul pos .1 (omega (arith, also)) in
-          omega arith;
+      reaches = let over : time * 997 < clocksOf tck time * (tck * 1000) = div-lt-iff-lt-mul most .0 (omega (arith, once)) in omega (arith, over);
+      least = λ m h. let below : time * 997 / (tck * 1000) < m = div-lt-iff-lt-mul most .1 (omega arith) in omega (arith, once, below);
     }
 
 module _ (tck time : ℕ) (pos : 0 < tck) where
@@ -53,18 +52,15 @@ module _ (tck time : ℕ) (pos : 0 < tck) where
   never-above some =
       let n = smallestOf tck time in
       let long : time ≤ n * tck = smallest tck time pos .reaches in
-      let same : n * (1000 * tck) ≡ 1000 * (n * tck) = mul-left-comm n 1000 tck in
-      guarded tck time pos .least n (omega (arith, long, same))
+      guarded tck time pos .least n (omega (arith, long))
 
   pub near : smallestOf tck time ≤ clocksOf tck time + (3 * smallestOf tck time + 996) / 1000
   near =
       let q = time / tck in
       let n = clocksOf tck time in
       let fit : q * tck ≤ time = div-mul-le-self time tck in
-      let long : time * 997 + 1 ≤ n * (1000 * tck) = guarded tck time pos .reaches in
-      let left : 997 * q * tck ≡ 997 * (q * tck) = mul-assoc 997 q tck in
-      let right : n * 1000 * tck ≡ n * (1000 * tck) = mul-assoc n 1000 tck in
-      let less : 997 * q < n * 1000 = lt-of-mul-lt-mul-right tck (omega (arith, fit, long, left, right)) in
+      let long : time * 997 + 1 ≤ n * (tck * 1000) = guarded tck time pos .reaches in
+      let less : 997 * q < 1000 * n = lt-of-mul-lt-mul-right tck (omega (arith, fit, long)) in
       by-test (eqb (time % tck) 0) (λ e. rw e (omega (arith, less))) (λ e. rw e (omega (arith, less)))
 
 pub zero-is-one : (tck : ℕ) → clocksOf tck 0 ≡ 1

@@ -46,10 +46,10 @@ pub fn clock_table(timings: Timings) -> ClockTableAnswer
     })
 }
 
-// A time in clocks, as JEDEC rounds it; the product needs more than 32 bits, the count does not.
+// A time in clocks, as JEDEC rounds it: two divisions, here as one. The products need more than 32 bits, the count does not.
 fn cycles(time: Picoseconds, tck: u32) -> u32
     requires { ⌜ 0 < tck ⌝ }
     ensures { λ r. ⌜ r ≡ clocksOf tck (time .0) ⌝ }
 {
-    ((time.0 as u64 * 997 / tck as u64 + 1000) / 1000) as u32
+    (time.0 as u64 * 997 / (tck as u64 * 1000) + 1) as u32
 }
