@@ -3,7 +3,6 @@
 use Prim.Native.Nat.{_+_, _*_, _/_, _≤_}
 use native.Mathlib.Omega.{arith}
 use native.Mathlib.Nat.{div-le-self}
-use borrow.Author.Needs.{needs}
 use Rattle.decoders.proofs.Least.{at-once}
 use Rattle.decoders.proofs.clocks.cycles.Statement.{statement}
 use Rattle.decoders.proofs.clocks.cycles.Tie as tie
@@ -15,7 +14,7 @@ pub cycles-spec : {M : Type 1} → statement M
 cycles-spec =
     tie.close
     (tie.spec
-    (λ c. search needs)
+    (λ c. omega arith)
     (λ c. omega arith)
     (λ c. omega arith)
     (λ c. omega (arith, c .before .pre))
