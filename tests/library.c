@@ -1216,8 +1216,8 @@ static void editions(const uint8_t *sample, size_t n) {
   edition_reports(image, n);
 }
 
-/* The nine times of an image in clocks, by document 02. A count is also the smallest n of which n * tCK is above 997 thousandths of the time,
- * and it lies as far below the smallest n with n * tCK at or above the time, which was the count before 2.1.0, as it may. */
+/* The nine times of an image in clocks, by document 02. A count is also the smallest n with n * tCK above 997 thousandths of the time; and it
+ * is not above the smallest n with n * tCK at or above the time, which was the count before 2.1.0, nor further below that n than it may be. */
 static void clocks_by(unsigned tck, const unsigned *words) {
   uint8_t image[TIMINGS_NEED] = {0};
   uint32_t list[ROOSTCORD_CLOCKS_COUNT];
