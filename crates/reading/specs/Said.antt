@@ -3,7 +3,7 @@
 -- `reading::byte` and `rules::check_package_coherence`, promise the case itself. Assumes nothing.
 use Prim.Native.Nat.{ℕ}
 use Rattle.reading.specs.declared.Refusal.{Refusal}
-use Rattle.reading.specs.declared.Refusal.the-variants.{Truncated, NotDdr5, UnknownEnum, ListTooShort, WrongOffset, TooLong, ZeroClock, BufferTooSmall, ReportCut, ReportVersion, ReportMalformed, NotReportable, StrictDate, UnknownEdition, NeitherSound}
+use Rattle.reading.specs.declared.Refusal.the-variants.{Truncated, NotDdr5, UnknownEnum, ListTooShort, WrongOffset, TooLong, ZeroClock, BufferTooSmall, ReportCut, ReportVersion, ReportMalformed, NotReportable, StrictDate, UnknownEdition, NegativeTime, NeitherSound}
 
 -- a refusal's number and the values that it carries, 0 where it carries fewer than two
 pub record Told : Type 0 where
@@ -30,6 +30,7 @@ told ReportMalformed = no 11 0 0
 told NotReportable = no 12 0 0
 told StrictDate = no 13 0 0
 told UnknownEdition = no 14 0 0
+told (NegativeTime place) = no 15 place 0
 told NeitherSound = no 21 0 0
 
 -- how many values a refusal carries
@@ -48,6 +49,7 @@ carried ReportMalformed = 0
 carried NotReportable = 0
 carried StrictDate = 0
 carried UnknownEdition = 0
+carried (NegativeTime place) = 1
 carried NeitherSound = 0
 
 pub data Said (A : Type 0) : Type 0 where

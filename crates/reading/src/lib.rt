@@ -10,7 +10,7 @@ ghost use Rattle.reading.specs.Ranges.{rangesOf, firstLacking, smaller, 
 pub enum Refusal {
     // The image lacks a byte that the decoder reads; the smallest such offset is carried.
     Truncated(usize),
-    // Byte 2 says another device type; it is carried.
+    // Byte 2 says another device type than the one that is decoded; it is carried.
     NotDdr5(u8),
     // A code that its field's table does not have.
     UnknownEnum { field: u8, value: u8 },
@@ -36,6 +36,8 @@ pub enum Refusal {
     StrictDate,
     // The edition is neither 1 nor 2.
     UnknownEdition,
+    // A time of a DDR4 image is below zero; its place among them is carried, from 1.
+    NegativeTime(u8),
     // Of two reads neither is long enough and has a CRC that fits.
     NeitherSound,
 }
@@ -60,6 +62,7 @@ impl Refusal {
             Refusal::NotReportable => 12,
             Refusal::StrictDate => 13,
             Refusal::UnknownEdition => 14,
+            Refusal::NegativeTime(_) => 15,
             Refusal::NeitherSound => 21,
         }
     }
@@ -83,6 +86,7 @@ impl Refusal {
             Refusal::NotReportable => 0,
             Refusal::StrictDate => 0,
             Refusal::UnknownEdition => 0,
+            Refusal::NegativeTime(place) => place as usize,
             Refusal::NeitherSound => 0,
         }
     }
@@ -106,6 +110,7 @@ impl Refusal {
             Refusal::NotReportable => 0,
             Refusal::StrictDate => 0,
             Refusal::UnknownEdition => 0,
+            Refusal::NegativeTime(_) => 0,
             Refusal::NeitherSound => 0,
         }
     }
@@ -129,6 +134,7 @@ impl Refusal {
             Refusal::NotReportable => 0,
             Refusal::StrictDate => 0,
             Refusal::UnknownEdition => 0,
+            Refusal::NegativeTime(_) => 1,
             Refusal::NeitherSound => 0,
         }
     }

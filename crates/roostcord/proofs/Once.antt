@@ -7,7 +7,7 @@ use native.Mathlib.Omega.{arith}
 use lib.IntN.{pos, negℤ, pos-ne-negsuc}
 use Rattle.reading.specs.Said.{told}
 use Rattle.reading.specs.declared.Refusal.{Refusal}
-use Rattle.reading.specs.declared.Refusal.the-variants.{Truncated, NotDdr5, UnknownEnum, ListTooShort, WrongOffset, TooLong, ZeroClock, BufferTooSmall, ReportCut, ReportVersion, ReportMalformed, NotReportable, StrictDate, UnknownEdition, NeitherSound}
+use Rattle.reading.specs.declared.Refusal.the-variants.{Truncated, NotDdr5, UnknownEnum, ListTooShort, WrongOffset, TooLong, ZeroClock, BufferTooSmall, ReportCut, ReportVersion, ReportMalformed, NotReportable, StrictDate, UnknownEdition, NegativeTime, NeitherSound}
 use Rattle.reading.proofs.Once.{told-once}
 use Rattle.roostcord.specs.Word.{refusalWord}
 
@@ -26,6 +26,7 @@ numbered ReportMalformed = (omega arith, omega arith)
 numbered NotReportable = (omega arith, omega arith)
 numbered StrictDate = (omega arith, omega arith)
 numbered UnknownEdition = (omega arith, omega arith)
+numbered (NegativeTime place) = (omega arith, omega arith)
 numbered NeitherSound = (omega arith, omega arith)
 
 -- a refusal's values are within their bits
