@@ -1,3 +1,4 @@
 pub mod Same
 pub mod Hold
 pub mod Lent
+pub mod Adding

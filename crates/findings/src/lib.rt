@@ -1,10 +1,13 @@
 // Findings: the record, when two are the same, fifteen of them by value with a count, and the two loops between those and a lent list.
 // No other function walks a list of records, so the proofs done by hand stand here alone.
 ghost use mathlib.Core.Path.{_≡_};
+ghost use mathlib.Core.List.{[], _∷_};
+ghost use Prim.Native.Nat.{_<_};
 ghost use lib.ListN.{length, take};
 ghost use Rattle.reading.specs.Lent.{laid};
 ghost use Rattle.findings.specs.Same.{severityNumber, sameNumbers, sameFinding};
-ghost use Rattle.findings.specs.Hold.{blankFinding, blankItems};
+ghost use Rattle.findings.specs.Hold.{blankFinding, blankItems, holding, cat};
+ghost use Rattle.findings.specs.Adding.{added};
 ghost use Rattle.findings.specs.Lent.{placesOf, loadCount, loadedOf};
 
 pub enum Severity {
@@ -102,6 +105,38 @@ pub fn blanks() -> [Finding; 15]
 {
     let one = blank();
     [one; 15]
+}
+
+// What three rules answered, in their order.
+pub fn of_three(a: Found, b: Found, c: Found) -> Findings
+    ensures { λ r. ⌜ r ≡ holding (cat (a ∷ b ∷ c ∷ [])) ⌝ }
+{
+    let none = Findings {
+        items: blanks(),
+        count: 0,
+    };
+    let one = added(none, a);
+    let two = added(one, b);
+    added(two, c)
+}
+
+// One more behind those that are there.
+fn added(found: Findings, x: Found) -> Findings
+    requires { ⌜ found .count < 15 ⌝ }
+    ensures { λ r. ⌜ r ≡ Rattle.findings.specs.Adding.added found x ⌝ }
+{
+    match x {
+        Found::Nothing => found,
+        Found::One(f) => {
+            let mut items = found.items;
+            let n = found.count;
+            items[n] = f;
+            Findings {
+                items,
+                count: n + 1,
+            }
+        }
+    }
 }
 
 // How many places of a list of `len` places are written: none where it has fewer than `need`.

@@ -33,7 +33,7 @@ use timing::check_standard_rate;
 mod gather;
 mod regions;
 mod table;
-mod timing;
+pub mod timing;
 
 // The edition of JESD79-5 whose ladder a data rate is held to.
 pub enum Edition {
@@ -242,7 +242,8 @@ fn check_capacity(identity: IdentityAndBase) -> Found
     check_device_count(identity.primary_bus_width_bits, io_width.bits())
 }
 
-fn check_device_count(bus_width_bits: u16, io_width_bits: u16) -> Found
+// The same of plain widths, of whatever record.
+pub fn check_device_count(bus_width_bits: u16, io_width_bits: u16) -> Found
     ensures { λ r. ⌜ r ≡ deviceCount «bus_width_bits» «io_width_bits» ⌝ }
 {
     if io_width_bits == 0 {

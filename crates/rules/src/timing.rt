@@ -80,12 +80,8 @@ fn check_trc_identity(trc: Picoseconds, tras: Picoseconds, trp: Picoseconds) -> 
     Found::One(trc_identity_mismatch(trc.0, tras.0, trp.0))
 }
 
-// A required ordering: the first at least the second.
-pub(crate) fn check_ordering(
-    relation: TimingOrder,
-    larger: Picoseconds,
-    smaller: Picoseconds,
-) -> Found
+// A required ordering: the first at least the second. Of plain times, of whatever record.
+pub fn check_ordering(relation: TimingOrder, larger: Picoseconds, smaller: Picoseconds) -> Found
     ensures { λ r. ⌜ r ≡ ordering relation (larger .0) (smaller .0) ⌝ }
 {
     if larger.0 < smaller.0 {
