@@ -18,6 +18,7 @@
  * count of 0), a uint32_t or uint16_t pointer is aligned as its type asks, no two lent buffers of one call overlap, and nothing
  * else writes a lent buffer, or reads one that the call writes, while the call runs.
  *
+ * From 2.1.0 to 2.2.0: two calls and refusal 15 are new, for DDR4. All other calls answer as they did.
  * From 2.0.0 to 2.1.0: roostcord_clocks and roostcord_pieces_clocks round as JEDEC does, so a count may be lower than it was, and a time
  * of 0 counts 1. No call is new, and all other calls answer as they did.
  * From 1.3.0 to 2.0.0: roostcord_lint and roostcord_pieces_fresh take the edition of the ladder, one argument more, so a caller must be
@@ -36,9 +37,9 @@
 /*---- the version of this header ----*/
 
 #define ROOSTCORD_VERSION_MAJOR 2
-#define ROOSTCORD_VERSION_MINOR 1
+#define ROOSTCORD_VERSION_MINOR 2
 #define ROOSTCORD_VERSION_PATCH 0
-/* as one number, which grows with every version, and as text: "2.1.0" */
+/* as one number, which grows with every version, and as text: "2.2.0" */
 #define ROOSTCORD_VERSION (ROOSTCORD_VERSION_MAJOR * 65536 + ROOSTCORD_VERSION_MINOR * 256 + ROOSTCORD_VERSION_PATCH)
 #define ROOSTCORD_VERSION_STRING \
   ROOSTCORD_TEXT(ROOSTCORD_VERSION_MAJOR) "." ROOSTCORD_TEXT(ROOSTCORD_VERSION_MINOR) "." ROOSTCORD_TEXT(ROOSTCORD_VERSION_PATCH)
@@ -71,7 +72,7 @@ extern "C" {
 /* Refusal numbers. What is not said to carry a value carries none. */
 enum {
   ROOSTCORD_TRUNCATED = 1,         /* the image lacks a byte that is read; first: the smallest such offset */
-  ROOSTCORD_NOT_DDR5 = 2,          /* byte 2 is not 0x12; first: the byte */
+  ROOSTCORD_NOT_DDR5 = 2,          /* byte 2 is not that of the call, 0x12 for DDR5 and 0x0C for DDR4; first: the byte */
   ROOSTCORD_UNKNOWN_CODE = 3,      /* a code outside its table; first: the field, ROOSTCORD_FIELD_..; second: the code */
   ROOSTCORD_LIST_TOO_SHORT = 4,    /* the lent list or state has too few places */
   ROOSTCORD_WRONG_OFFSET = 5,      /* the piece's offset is not the count taken; first: that count */
@@ -83,10 +84,11 @@ enum {
   ROOSTCORD_REPORT_MALFORMED = 11, /* no report of version 1 */
   ROOSTCORD_WRONG_DATE = 13,       /* strict: a date byte is not two decimal digits, or the week is not 1 to 53 */
   ROOSTCORD_UNKNOWN_EDITION = 14,  /* the ladder has no such edition */
+  ROOSTCORD_NEGATIVE_TIME = 15,    /* a time of a DDR4 image is below zero; first: which one, ROOSTCORD_DDR4_TIME_.. */
   ROOSTCORD_NEITHER_SOUND = 21     /* of two reads neither is long enough and has a base CRC that fits */
 };
 
-/* The fields of refusal 3, in the order in which they are checked. */
+/* The fields of refusal 3, in the order in which they are checked; from 21 on they are those of DDR4. */
 enum {
   ROOSTCORD_FIELD_SPD_BYTES = 1,       /* byte 0, bits 6-4 */
   ROOSTCORD_FIELD_MODULE_TYPE = 2,     /* byte 3, bits 3-0 */
@@ -96,7 +98,20 @@ enum {
   ROOSTCORD_FIELD_BANK_GROUPS = 6,     /* byte 7, bits 7-5 */
   ROOSTCORD_FIELD_BANKS_PER_GROUP = 7, /* byte 7, bits 2-0 */
   ROOSTCORD_FIELD_BUS_WIDTH = 8,       /* byte 235, bits 2-0 */
-  ROOSTCORD_FIELD_CHANNELS = 9         /* byte 235, bits 7-5 */
+  ROOSTCORD_FIELD_CHANNELS = 9,        /* byte 235, bits 7-5 */
+  ROOSTCORD_FIELD_DDR4_TIMEBASE = 21,  /* byte 17, bits 3-0 */
+  ROOSTCORD_FIELD_DDR4_DENSITY = 22,   /* byte 4, bits 3-0 */
+  ROOSTCORD_FIELD_DDR4_IO_WIDTH = 23,  /* byte 12, bits 2-0 */
+  ROOSTCORD_FIELD_DDR4_BUS_WIDTH = 24  /* byte 13, bits 2-0 */
+};
+
+/* The times of refusal 15, in the order in which they are looked at. tRAS has no fine part, and so is never below zero. */
+enum {
+  ROOSTCORD_DDR4_TIME_TCK = 1,
+  ROOSTCORD_DDR4_TIME_TAA = 2,
+  ROOSTCORD_DDR4_TIME_TRCD = 3,
+  ROOSTCORD_DDR4_TIME_TRP = 4,
+  ROOSTCORD_DDR4_TIME_TRC = 5
 };
 
 /*---- sizes ----*/
@@ -108,16 +123,20 @@ enum {
   ROOSTCORD_TIMINGS_NEED = 94,
   ROOSTCORD_MANUFACTURING_NEEDS = 555,
   ROOSTCORD_CRC_NEEDS = 512,
+  ROOSTCORD_DDR4_NEEDS = 126,
   ROOSTCORD_IDENTITY_COUNT = 18, /* numbers of a list */
   ROOSTCORD_TIMINGS_COUNT = 30,
   ROOSTCORD_CLOCKS_COUNT = 9,
   ROOSTCORD_MANUFACTURING_COUNT = 11,
+  ROOSTCORD_DDR4_COUNT = 9,
   ROOSTCORD_CAS_LATENCIES_MAX = 40,
   ROOSTCORD_PART_NUMBER_MAX = 30, /* bytes of a part number */
   ROOSTCORD_FINDINGS_MAX = 15,
   ROOSTCORD_FINDING_COUNT = 6,   /* numbers of a finding */
   ROOSTCORD_REPORT_NUMBERS = 91, /* the flags and six numbers for each of fifteen findings: no report has more */
-  ROOSTCORD_REPORT_MAX = 215     /* no report has more bytes */
+  ROOSTCORD_REPORT_MAX = 215,    /* no report has more bytes */
+  ROOSTCORD_DDR4_FINDINGS_MAX = 3,
+  ROOSTCORD_DDR4_NUMBERS = 18 /* six numbers for each of them */
 };
 
 /*---- the editions of the ladder ----*/
@@ -181,7 +200,7 @@ enum {
   ROOSTCORD_IDENTITY_SPD_BYTES,
   ROOSTCORD_IDENTITY_REVISION_MAJOR,
   ROOSTCORD_IDENTITY_REVISION_MINOR,
-  ROOSTCORD_IDENTITY_DEVICE_TYPE, /* byte 2: ROOSTCORD_DEVICE_DDR5, since nothing else is decoded */
+  ROOSTCORD_IDENTITY_DEVICE_TYPE, /* byte 2: ROOSTCORD_DEVICE_DDR5, since this call decodes nothing else */
   ROOSTCORD_IDENTITY_MODULE_TYPE, /* ROOSTCORD_MODULE_.. */
   ROOSTCORD_IDENTITY_HYBRID,      /* 0 or 1 */
   ROOSTCORD_IDENTITY_DIE_GIGABITS,
@@ -198,7 +217,8 @@ enum {
   ROOSTCORD_IDENTITY_BUS_WIDTH
 };
 
-enum { ROOSTCORD_DEVICE_DDR5 = 0x12 };
+/* Byte 2 of an image. */
+enum { ROOSTCORD_DEVICE_DDR4 = 0x0C, ROOSTCORD_DEVICE_DDR5 = 0x12 };
 
 enum {
   ROOSTCORD_MODULE_RDIMM = 1,
@@ -276,6 +296,20 @@ enum {
   ROOSTCORD_MANUFACTURING_DRAM_CODE,   /* 553 */
   ROOSTCORD_MANUFACTURING_STEPPING,    /* 554, of the DRAM */
   ROOSTCORD_MANUFACTURING_PART_LENGTH  /* 521 to 550: bytes of the part number, without the spaces that end it */
+};
+
+/* Places in the list of roostcord_ddr4, with the bytes that they are read from. A time is 125 picoseconds for each unit, plus its fine
+ * part, which is a byte from -128 to 127. */
+enum {
+  ROOSTCORD_DDR4_MEGABITS,  /* of a die: 256 << bits 3-0 of byte 4 */
+  ROOSTCORD_DDR4_IO_WIDTH,  /* of a device: 4 << bits 2-0 of byte 12 */
+  ROOSTCORD_DDR4_BUS_WIDTH, /* 8 << bits 2-0 of byte 13 */
+  ROOSTCORD_DDR4_TCK,       /* units in byte 18, fine part in 125 */
+  ROOSTCORD_DDR4_TAA,       /* units in 24, fine part in 123 */
+  ROOSTCORD_DDR4_TRCD,      /* units in 25, fine part in 122 */
+  ROOSTCORD_DDR4_TRP,       /* units in 26, fine part in 121 */
+  ROOSTCORD_DDR4_TRAS,      /* units in 28, and above these in bits 3-0 of 27; no fine part */
+  ROOSTCORD_DDR4_TRC        /* units in 29, and above these in bits 7-4 of 27; fine part in 120 */
 };
 
 /* How a date is taken: as it is, or refused where it is none. */
@@ -359,6 +393,19 @@ ROOSTCORD_MUST_USE int32_t roostcord_crc(const uint8_t *image, size_t image_len)
  * Answers ROOSTCORD_FIRST_READ or ROOSTCORD_SECOND_READ; bytes 0 to 511 of that read are its base block.
  * Refuses 21 where neither is. */
 ROOSTCORD_MUST_USE int32_t roostcord_sound_read(const uint8_t *first, size_t first_len, const uint8_t *second, size_t second_len);
+
+/* Decodes the sizes and times of a DDR4 image into a list of numbers; ROOSTCORD_DDR4_.. are their places. It takes a whole image. Where one
+ * arrives in pieces, keep beside the state each piece that the state took, at the offset at which it took it, and no other piece.
+ * Answers ROOSTCORD_DDR4_COUNT.
+ * Refuses 4 where out_len is less than that; 1 where one of bytes 2, 4, 12, 13, 17, 18, 24 to 29, 120 to 123 and 125 is missing, which is
+ * below ROOSTCORD_DDR4_NEEDS bytes; 2 where byte 2 is not ROOSTCORD_DEVICE_DDR4; 3 for the fields from 21 on in their order; 15. */
+ROOSTCORD_MUST_USE int32_t roostcord_ddr4(const uint8_t *image, size_t image_len, uint32_t *out, size_t out_len);
+
+/* Lints a DDR4 image: ROOSTCORD_FINDING_COUNT numbers for each finding, in the order of the codes. They are code 1, and code 3 with either
+ * sub, as of DDR5.
+ * Answers the count of numbers: 6 * findings, 0 to ROOSTCORD_DDR4_NUMBERS.
+ * Refuses 4 where out_len is less than ROOSTCORD_DDR4_NUMBERS, however few there are; then as roostcord_ddr4 does. */
+ROOSTCORD_MUST_USE int32_t roostcord_ddr4_lint(const uint8_t *image, size_t image_len, uint32_t *out, size_t out_len);
 
 /*---- an image that arrives in pieces ----
  *

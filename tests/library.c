@@ -1,6 +1,7 @@
 /* Tests of libroostcord.a from C: buffers that end at a guard page or are exactly as long as told, every buffer length, NULL with
- * length 0, refusals that write nothing, a state in lent bytes against the whole image, and the two editions of the ladder against each
- * other. And of the feeding loop: readers that repeat, lose, cut and mix bursts, against the whole image. Usage: library IMAGE... */
+ * length 0, refusals that write nothing, a state in lent bytes against the whole image, the two editions of the ladder against each
+ * other, and DDR4 images that are made up here. And of the feeding loop: readers that repeat, lose, cut and mix bursts, against the whole
+ * image. Usage: library IMAGE..., DDR5 images of 600 bytes or more */
 #define _DEFAULT_SOURCE
 #include "feed.h"
 #include "log.h"
@@ -31,6 +32,10 @@ SURELY(report_places, ROOSTCORD_REPORT_FLAGS + 1 == ROOSTCORD_REPORT_FINDINGS);
 SURELY(report_numbers, ROOSTCORD_REPORT_FINDINGS + ROOSTCORD_FINDINGS_MAX * ROOSTCORD_FINDING_COUNT == ROOSTCORD_REPORT_NUMBERS);
 SURELY(report_bytes, 5 + 14 * ROOSTCORD_FINDINGS_MAX == ROOSTCORD_REPORT_MAX);
 SURELY(editions, ROOSTCORD_EDITION_1 == 1 && ROOSTCORD_EDITION_2 == 2 && ROOSTCORD_UNKNOWN_EDITION == 14);
+SURELY(ddr4_places, ROOSTCORD_DDR4_MEGABITS == 0 && ROOSTCORD_DDR4_TRC + 1 == ROOSTCORD_DDR4_COUNT);
+SURELY(ddr4_numbers, ROOSTCORD_DDR4_FINDINGS_MAX * ROOSTCORD_FINDING_COUNT == ROOSTCORD_DDR4_NUMBERS);
+SURELY(ddr4_fields, ROOSTCORD_FIELD_DDR4_TIMEBASE == 21 && ROOSTCORD_FIELD_DDR4_BUS_WIDTH == 24 && ROOSTCORD_NEGATIVE_TIME == 15);
+SURELY(ddr4_times, ROOSTCORD_DDR4_TIME_TCK == 1 && ROOSTCORD_DDR4_TIME_TRC == 5);
 SURELY(version, ROOSTCORD_VERSION >> 16 == ROOSTCORD_VERSION_MAJOR && ROOSTCORD_VERSION_MINOR < 256 && ROOSTCORD_VERSION_PATCH < 256);
 
 static long checks, faults;
@@ -687,6 +692,14 @@ static void holds_under(const uint8_t *state, uint32_t edition, const uint8_t *i
 
 static void holds(const uint8_t *state, const uint8_t *image, size_t n) { holds_under(state, ROOSTCORD_EDITION_2, image, n); }
 
+enum { UNTOUCHED = 0xA5 };
+
+/* A place for an image that nothing was kept in; and whether it has the bytes from one offset up to another, and nothing besides. */
+static void nothing_kept(uint8_t *kept) { memset(kept, UNTOUCHED, IMAGE_MAX); }
+static int keeps(const uint8_t *kept, const uint8_t *image, size_t from, size_t to) {
+  return all(kept, from, UNTOUCHED) && same(kept + from, image + from, to - from) && all(kept + to, IMAGE_MAX - to, UNTOUCHED);
+}
+
 /*---- the feeding loop ----*/
 
 enum { RUNS = 12000, BURST = 16, PAST = IMAGE_MAX + 100, ANSWERS_OF = 16, SELDOM = 700, LIMIT = 100000 };
@@ -775,11 +788,13 @@ static int false_timings(const uint8_t *state, const uint8_t *image, size_t n) {
 
 /* One run of the loop with an unruly reader: how it ended, after the end was held to what the reader did. */
 static enum feed_end unruly_run(struct unruly u, size_t len, uint32_t edition) {
-  uint8_t state[STATE];
+  uint8_t state[STATE], kept[IMAGE_MAX];
   struct reader reader = {ask_unruly, NULL, &u, FEED_TRIES};
   fresh_of(state, edition);
-  struct feed_result fed = feed_image(&reader, len, state);
+  nothing_kept(kept);
+  struct feed_result fed = feed_image(&reader, len, state, kept);
   holds_under(state, edition, u.image, fed.taken);
+  CHECK(keeps(kept, u.image, 0, fed.taken));
   CHECK(u.same <= FEED_TRIES && fed.asked == fed.taken && fed.came == u.last.offset);
   if (fed.end == FEED_WHOLE) CHECK(fed.taken == u.n && u.last.kind == BURST_END);
   else if (fed.end == FEED_REFUSED) CHECK(fed.refusal == -ROOSTCORD_TOO_LONG && u.n > IMAGE_MAX && u.last.offset + u.last.len > IMAGE_MAX);
@@ -836,18 +851,18 @@ static void refused_scripted(void *context, const struct burst *burst, int32_t a
   s->refusals++, s->offset = burst->offset, s->answer = answer;
 }
 
-/* Feeds what a script has to a state that may have taken some. */
-static struct feed_result scripted_run(struct scripted *s, const struct burst *script, size_t steps, uint8_t *state) {
+/* Feeds what a script has to a state that may have taken some, beside which that was kept. */
+static struct feed_result scripted_run(struct scripted *s, const struct burst *script, size_t steps, uint8_t *state, uint8_t *kept) {
   struct reader reader = {ask_scripted, refused_scripted, s, FEED_TRIES};
   *s = (struct scripted){.script = script, .steps = steps};
-  return feed_image(&reader, BURST, state);
+  return feed_image(&reader, BURST, state, kept);
 }
 
 /* The day of the forty certificates: the burst of bytes 16 to 31 comes twice. The old loop signs the shifted image; the loop has the
  * sound one. */
 static void burst_twice(const uint8_t *image, size_t n) {
   struct burst script[IMAGE_MAX / BURST + 3];
-  uint8_t state[STATE], shifted[IMAGE_MAX + BURST];
+  uint8_t state[STATE], kept[IMAGE_MAX], shifted[IMAGE_MAX + BURST];
   struct scripted s;
   size_t steps = 0;
   for (size_t at = 0; at < n; at += BURST) {
@@ -857,10 +872,12 @@ static void burst_twice(const uint8_t *image, size_t n) {
   }
   script[steps++] = (struct burst){BURST_END, n, 0, NULL, 0};
   fresh(state);
-  struct feed_result fed = scripted_run(&s, script, steps, state);
+  nothing_kept(kept);
+  struct feed_result fed = scripted_run(&s, script, steps, state, kept);
   CHECK(fed.end == FEED_WHOLE && s.asks == steps && s.refusals == 1);
   CHECK(s.offset == BURST && s.answer == -(ROOSTCORD_WRONG_OFFSET + 256 * 2 * BURST) && fed.refusal == s.answer);
   holds(state, image, n);
+  CHECK(keeps(kept, image, 0, n));
   struct reader reader = {ask_scripted, NULL, &s, FEED_TRIES};
   s.asks = 0;
   fresh(state);
@@ -870,28 +887,52 @@ static void burst_twice(const uint8_t *image, size_t n) {
   holds(state, shifted, n + BURST);
 }
 
+/* Bursts that are refused and have other bytes than the image: one that came before, one that is early, one that is too long at the end.
+ * None of them is kept. */
+static void refused_not_kept(const uint8_t *image, size_t n) {
+  static uint8_t other[IMAGE_MAX + 1];
+  uint8_t state[STATE], kept[IMAGE_MAX];
+  struct scripted s;
+  const struct burst script[] = {{BURST_BYTES, 0, BURST, image, 0},     {BURST_BYTES, 0, BURST, other, 0},
+                                 {BURST_BYTES, BURST, 1, image + BURST, 0}, {BURST_BYTES, BURST, 1, other, 0},
+                                 {BURST_BYTES, 3 * BURST, BURST, other, 0}, {BURST_BYTES, BURST + 1, n - BURST - 1, image + BURST + 1, 0},
+                                 {BURST_END, n, BURST, other, 0}};
+  const struct burst past = {BURST_BYTES, n, IMAGE_MAX + 1, other, 0};
+  for (size_t i = 0; i < sizeof other; i++) other[i] = (uint8_t)~image[i % n];
+  fresh(state);
+  nothing_kept(kept);
+  struct feed_result fed = scripted_run(&s, script, sizeof script / sizeof *script, state, kept);
+  CHECK(fed.end == FEED_WHOLE && s.refusals == 3 && keeps(kept, image, 0, n));
+  holds(state, image, n);
+  fed = scripted_run(&s, &past, 1, state, kept);
+  CHECK(fed.end == FEED_REFUSED && fed.refusal == -ROOSTCORD_TOO_LONG && keeps(kept, image, 0, n));
+  holds(state, image, n);
+}
+
 /* Where the loop gives up, what starts its count anew, and that it goes on from what a state has. */
 static void giving_up(const uint8_t *image) {
   const struct burst empty = {BURST_BYTES, 0, 0, NULL, 0}, first = {BURST_BYTES, 0, BURST, image, 0}, end = {BURST_END, BURST, 0, NULL, 0};
   const struct burst failed = {BURST_FAILED, 0, 0, NULL, ENODEV};
   struct burst script[2 * FEED_TRIES];
-  uint8_t state[STATE];
+  uint8_t state[STATE], kept[IMAGE_MAX];
   struct scripted s;
   fresh(state);
-  struct feed_result fed = scripted_run(&s, &empty, 1, state); /* an empty burst is no end */
+  nothing_kept(kept);
+  struct feed_result fed = scripted_run(&s, &empty, 1, state, kept); /* an empty burst is no end */
   CHECK(fed.end == FEED_GAVE_UP && s.asks == FEED_TRIES && s.refusals == 0 && fed.refusal == 0 && fed.taken == 0 && fed.asked == 0);
-  fed = scripted_run(&s, &end, 1, state); /* nor is an end at another offset than the count taken */
+  fed = scripted_run(&s, &end, 1, state, kept); /* nor is an end at another offset than the count taken */
   CHECK(fed.end == FEED_GAVE_UP && s.asks == FEED_TRIES && s.refusals == FEED_TRIES && fed.refusal == -ROOSTCORD_WRONG_OFFSET && fed.came == BURST);
   for (size_t i = 0; i < 2 * FEED_TRIES; i++) script[i] = i == FEED_TRIES - 1 ? first : empty; /* progress starts the count anew */
   script[2 * FEED_TRIES - 1] = end;
-  fed = scripted_run(&s, script, 2 * FEED_TRIES, state);
+  fed = scripted_run(&s, script, 2 * FEED_TRIES, state, kept);
   CHECK(fed.end == FEED_WHOLE && s.asks == 2 * FEED_TRIES && s.refusals == FEED_TRIES - 1);
   holds(state, image, BURST);
-  fed = scripted_run(&s, &first, 1, state); /* a state that has that burst goes on behind it */
+  fed = scripted_run(&s, &first, 1, state, kept); /* a state that has that burst goes on behind it */
   CHECK(fed.end == FEED_GAVE_UP && fed.asked == BURST && fed.taken == BURST && s.refusals == FEED_TRIES);
-  fed = scripted_run(&s, &failed, 1, state);
+  fed = scripted_run(&s, &failed, 1, state, kept);
   CHECK(fed.end == FEED_FAILED && fed.error == ENODEV && s.asks == 1);
   holds(state, image, BURST);
+  CHECK(keeps(kept, image, 0, BURST));
 }
 
 /* A reader that loses its second burst, over another. */
@@ -912,7 +953,7 @@ static void streams(const uint8_t *image, size_t n) {
   struct source source;
   struct lossy lossy;
   const struct reader loses = {ask_lossy, NULL, &lossy, FEED_TRIES};
-  uint8_t state[STATE];
+  uint8_t state[STATE], kept[IMAGE_MAX];
   int ends[2];
   if (pipe(ends) != 0) exit((perror("test"), 2));
   CHECK(!can_seek(ends[0]));
@@ -932,9 +973,11 @@ static void streams(const uint8_t *image, size_t n) {
   fresh(state);
   CHECK(roostcord_pieces_feed(state, STATE, burst.offset, burst.bytes, burst.len) == BURST);
   lossy = (struct lossy){reader, 0};
-  struct feed_result fed = feed_image(&loses, BURST, state);
+  nothing_kept(kept);
+  struct feed_result fed = feed_image(&loses, BURST, state, kept);
   CHECK(fed.end == FEED_GONE && fed.taken == 2 * BURST && fed.asked == 2 * BURST && fed.came == 3 * BURST && fed.refusal == 0);
   holds(state, image, 2 * BURST);
+  CHECK(keeps(kept, image, BURST, 2 * BURST)); /* the first burst was fed without the loop */
   int status = -1;
   close(ends[0]);
   CHECK(waitpid(child, &status, 0) == child && status == 0);
@@ -943,7 +986,7 @@ static void streams(const uint8_t *image, size_t n) {
 /* Bursts of one length from a file, at offsets and as a stream: no byte is read that was not asked for, and all of it comes. */
 static void file_bursts(int fd, int stream, const uint8_t *image, size_t n, size_t len) {
   struct source source;
-  uint8_t state[STATE];
+  uint8_t state[STATE], kept[IMAGE_MAX];
   size_t least = len < n ? len : n;
   struct reader reader = stream ? stream_reader(&source, fd) : file_reader(&source, fd);
   lseek(fd, 0, SEEK_SET);
@@ -951,8 +994,9 @@ static void file_bursts(int fd, int stream, const uint8_t *image, size_t n, size
   reader = stream ? stream_reader(&source, fd) : file_reader(&source, fd);
   lseek(fd, 0, SEEK_SET);
   fresh(state);
-  struct feed_result fed = feed_image(&reader, len, state);
-  CHECK(fed.end == FEED_WHOLE && fed.refusal == 0);
+  nothing_kept(kept);
+  struct feed_result fed = feed_image(&reader, len, state, kept);
+  CHECK(fed.end == FEED_WHOLE && fed.refusal == 0 && keeps(kept, image, 0, n));
   holds(state, image, n);
 }
 
@@ -960,7 +1004,7 @@ static void files(const uint8_t *image, size_t n) {
   struct source source;
   struct lossy lossy;
   const struct reader loses = {ask_lossy, NULL, &lossy, FEED_TRIES};
-  uint8_t state[STATE];
+  uint8_t state[STATE], kept[IMAGE_MAX];
   FILE *file = tmpfile();
   int fd = file ? fileno(file) : -1;
   if (fd < 0 || write(fd, image, n) != (ssize_t)n) exit((perror("test"), 2));
@@ -969,12 +1013,13 @@ static void files(const uint8_t *image, size_t n) {
     for (int stream = 0; stream < 2; stream++) file_bursts(fd, stream, image, n, len);
   fresh(state);
   lossy = (struct lossy){file_reader(&source, fd), 0}; /* a file is read again where a burst was lost */
-  CHECK(feed_image(&loses, BURST, state).end == FEED_WHOLE && lossy.asks == (n + BURST - 1) / BURST + 2);
+  nothing_kept(kept);
+  CHECK(feed_image(&loses, BURST, state, kept).end == FEED_WHOLE && lossy.asks == (n + BURST - 1) / BURST + 2);
   holds(state, image, n);
   fclose(file);
   struct reader closed = file_reader(&source, -1);
-  struct feed_result fed = feed_image(&closed, BURST, state);
-  CHECK(fed.end == FEED_FAILED && fed.error == EBADF);
+  struct feed_result fed = feed_image(&closed, BURST, state, kept);
+  CHECK(fed.end == FEED_FAILED && fed.error == EBADF && keeps(kept, image, 0, n));
 }
 
 /*---- the editions of the ladder ----*/
@@ -1253,6 +1298,251 @@ static void every_clock(void) {
   }
 }
 
+/*---- DDR4 ----*/
+
+enum { DDR4 = ROOSTCORD_DEVICE_DDR4, DDR4_NEEDS = ROOSTCORD_DDR4_NEEDS, DDR4_COUNT = ROOSTCORD_DDR4_COUNT, DDR4_NUMBERS = ROOSTCORD_DDR4_NUMBERS };
+
+static const size_t ddr4_reads[][2] = {{2, 3}, {4, 5}, {12, 14}, {17, 19}, {24, 30}, {120, 124}, {125, DDR4_NEEDS}};
+
+/* The fields from 21 on: the byte, its bits, and the last code; and what the codes of the sizes stand for. */
+static const struct {
+  size_t byte;
+  int32_t bits, last;
+} ddr4_fields[] = {{17, 0x0F, 0}, {4, 0x0F, 7}, {12, 0x07, 3}, {13, 0x07, 3}};
+enum { DDR4_FIELDS = sizeof ddr4_fields / sizeof *ddr4_fields };
+static const uint32_t megabits[] = {256, 512, 1024, 2048, 4096, 8192, 16384, 32768}, io_widths[] = {4, 8, 16, 32}, bus_widths[] = {8, 16, 32, 64};
+
+/* The times that have a fine part, as refusal 15 counts them: the bytes of their units and of their fine part. */
+static const struct {
+  size_t units, fine;
+} ddr4_times[] = {{18, 125}, {24, 123}, {25, 122}, {26, 121}, {29, 120}};
+enum { DDR4_TIMES = sizeof ddr4_times / sizeof *ddr4_times };
+
+/* Such a time in picoseconds. Only the last has units above its byte: the high half of byte 27. */
+static int32_t ddr4_time(const uint8_t *b, size_t k) {
+  int32_t units = b[ddr4_times[k].units], fine = b[ddr4_times[k].fine];
+  if (k == DDR4_TIMES - 1) units += b[27] / 16 * 256;
+  return 125 * units + (fine < 128 ? fine : fine - 256);
+}
+
+/* The answer about a DDR4 image, with places enough, and its numbers. */
+static int32_t ddr4_of(const uint8_t *b, size_t n, uint32_t *numbers) {
+  if (n < DDR4_NEEDS) return TRUNCATED(ddr4_reads, n);
+  if (b[2] != DDR4) return -(ROOSTCORD_NOT_DDR5 + 256 * b[2]);
+  for (int32_t k = 0; k < DDR4_FIELDS; k++) {
+    int32_t code = b[ddr4_fields[k].byte] & ddr4_fields[k].bits;
+    if (code > ddr4_fields[k].last) return -(ROOSTCORD_UNKNOWN_CODE + 256 * (21 + k) + (1 << 20) * code);
+  }
+  for (int32_t k = 0; k < DDR4_TIMES; k++)
+    if (ddr4_time(b, (size_t)k) < 0) return -(ROOSTCORD_NEGATIVE_TIME + 256 * (1 + k));
+  numbers[ROOSTCORD_DDR4_MEGABITS] = megabits[b[4] & 15];
+  numbers[ROOSTCORD_DDR4_IO_WIDTH] = io_widths[b[12] & 7];
+  numbers[ROOSTCORD_DDR4_BUS_WIDTH] = bus_widths[b[13] & 7];
+  for (size_t k = 0; k < 4; k++) numbers[ROOSTCORD_DDR4_TCK + k] = (uint32_t)ddr4_time(b, k); /* tCK, tAA, tRCD and tRP */
+  numbers[ROOSTCORD_DDR4_TRAS] = 125u * (b[28] + b[27] % 16 * 256u);
+  numbers[ROOSTCORD_DDR4_TRC] = (uint32_t)ddr4_time(b, 4);
+  return DDR4_COUNT;
+}
+
+/* Its findings: how many numbers, or the refusal. */
+static int32_t ddr4_findings_of(const uint8_t *b, size_t n, uint32_t *found) {
+  uint32_t is[DDR4_COUNT];
+  int32_t answer = ddr4_of(b, n, is);
+  if (answer < 0) return answer;
+  const uint32_t bus = is[ROOSTCORD_DDR4_BUS_WIDTH], io = is[ROOSTCORD_DDR4_IO_WIDTH], trcd = is[ROOSTCORD_DDR4_TRCD], tras = is[ROOSTCORD_DDR4_TRAS],
+                 trc = is[ROOSTCORD_DDR4_TRC];
+  enum { E = ROOSTCORD_SEVERITY_ERROR };
+  const uint32_t rules[][ROOSTCORD_FINDING_COUNT] = {{1, E, 0, bus, io, 0}, {3, E, 1, tras, trcd, 0}, {3, E, 2, trc, tras, 0}};
+  const int broken[] = {bus / io * io != bus, tras < trcd, trc < tras};
+  int32_t put = 0;
+  for (size_t k = 0; k < ROOSTCORD_DDR4_FINDINGS_MAX; k++)
+    if (broken[k]) memcpy(found + put, rules[k], sizeof rules[k]), put += ROOSTCORD_FINDING_COUNT;
+  return put;
+}
+
+static long ddr4_sets[1 << ROOSTCORD_DDR4_FINDINGS_MAX], ddr4_refused[1 + ROOSTCORD_NEGATIVE_TIME];
+
+/* Counts the set of findings that came: bit 0 for code 1, and the bit of its sub for code 3. */
+static void count_set(const uint32_t *found, int32_t numbers) {
+  unsigned set = 0;
+  for (int32_t k = 0; k < numbers; k += ROOSTCORD_FINDING_COUNT) set |= 1u << found[k + ROOSTCORD_FINDING_SUB];
+  ddr4_sets[set]++;
+}
+
+/* Both calls on an image, against its bytes; the places behind the numbers, and all of them where it is refused, stay. */
+static void ddr4_holds(const uint8_t *image, size_t n) {
+  uint32_t list[LIST], wanted[LIST];
+  memset(list, UNTOUCHED, sizeof list), memset(wanted, UNTOUCHED, sizeof wanted);
+  int32_t answer = ddr4_of(image, n, wanted);
+  CHECK(roostcord_ddr4(image, n, list, LIST) == answer && same(list, wanted, sizeof list));
+  if (answer < 0) ddr4_refused[ROOSTCORD_NUMBER(answer)]++;
+  memset(list, UNTOUCHED, sizeof list), memset(wanted, UNTOUCHED, sizeof wanted);
+  answer = ddr4_findings_of(image, n, wanted);
+  CHECK(roostcord_ddr4_lint(image, n, list, LIST) == answer && same(list, wanted, sizeof list));
+  if (answer >= 0) count_set(wanted, answer);
+}
+
+/* Both calls into lists of every length at a guard page, of an image at another: short ones are refused 4 before all else, and stay. */
+static void ddr4_lists(const uint8_t *image, size_t n) {
+  uint8_t *edge = guarded_copy(image, n);
+  for (size_t len = 0; len <= DDR4_NUMBERS + 3; len++) {
+    uint32_t *list = (uint32_t *)guarded(4 * len), wanted[LIST];
+    if (len) memset(list, UNTOUCHED, 4 * len);
+    memset(wanted, UNTOUCHED, sizeof wanted);
+    CHECK(roostcord_ddr4(edge, n, list, len) == (len < DDR4_COUNT ? -ROOSTCORD_LIST_TOO_SHORT : ddr4_of(image, n, wanted)) && same(list, wanted, 4 * len));
+    if (len) memset(list, UNTOUCHED, 4 * len);
+    memset(wanted, UNTOUCHED, sizeof wanted);
+    CHECK(roostcord_ddr4_lint(edge, n, list, len) == (len < DDR4_NUMBERS ? -ROOSTCORD_LIST_TOO_SHORT : ddr4_findings_of(image, n, wanted)));
+    CHECK(same(list, wanted, 4 * len));
+    release((uint8_t *)list, 4 * len);
+  }
+  CHECK(same(edge, image, n));
+  release(edge, n);
+}
+
+/* A DDR4-2400 module of 8 Gb dies, eight bits wide, on 64 bits: tCK 833, tAA, tRCD and tRP 13750, tRAS 32000, tRC 45750. */
+static void make_ddr4(uint8_t image[IMAGE_MAX]) {
+  memset(image, 0, IMAGE_MAX);
+  image[2] = DDR4, image[4] = 0x85, image[12] = 1, image[13] = 3;
+  image[18] = 7, image[125] = 0xD6, image[24] = image[25] = image[26] = 110;
+  image[27] = 0x11, image[28] = 0, image[29] = 0x6E;
+}
+
+static void known_ddr4(void) {
+  static const uint32_t known[DDR4_COUNT] = {8192, 8, 64, 833, 13750, 13750, 13750, 32000, 45750};
+  uint8_t image[IMAGE_MAX];
+  uint32_t list[LIST];
+  make_ddr4(image);
+  CHECK(roostcord_ddr4(image, DDR4_NEEDS, list, DDR4_COUNT) == DDR4_COUNT && same(list, known, sizeof known));
+  CHECK(roostcord_ddr4_lint(image, DDR4_NEEDS, list, DDR4_NUMBERS) == 0);
+  image[125] = 0x7F, image[121] = 0x80;
+  CHECK(roostcord_ddr4(image, DDR4_NEEDS, list, DDR4_COUNT) == DDR4_COUNT && list[ROOSTCORD_DDR4_TCK] == 1002 && list[ROOSTCORD_DDR4_TRP] == 13622);
+  memset(list, UNTOUCHED, sizeof list);
+  CHECK(roostcord_ddr4(NULL, 0, list, DDR4_COUNT) == -(1 + 256 * 2) && roostcord_ddr4_lint(NULL, 0, list, DDR4_NUMBERS) == -(1 + 256 * 2));
+  CHECK(roostcord_ddr4(NULL, 0, NULL, 0) == -4 && roostcord_ddr4_lint(NULL, 0, NULL, 0) == -4 && all((uint8_t *)list, sizeof list, UNTOUCHED));
+}
+
+/* Every units with every fine part, of each time; tRC has none above its byte here. */
+static void ddr4_fine_parts(void) {
+  uint8_t image[IMAGE_MAX];
+  for (unsigned k = 0; k < DDR4_TIMES * 65536; k++) {
+    size_t time = k / 65536;
+    make_ddr4(image);
+    if (time == DDR4_TIMES - 1) image[27] = 0x01;
+    image[ddr4_times[time].units] = (uint8_t)(k >> 8), image[ddr4_times[time].fine] = (uint8_t)k;
+    ddr4_holds(image, DDR4_NEEDS);
+  }
+}
+
+/* Every value of byte 27 with every one of bytes 28 and 29, beside fine parts at their ends. */
+static void ddr4_halves(void) {
+  static const uint8_t fines[] = {0, 1, 0x7F, 0x80, 0xFF};
+  uint8_t image[IMAGE_MAX];
+  make_ddr4(image);
+  for (unsigned k = 0; k < 2 * 65536; k++) {
+    image[28] = 0x40, image[29] = 0x80, image[28 + k / 65536] = (uint8_t)k;
+    image[27] = (uint8_t)(k >> 8), image[120] = fines[k % sizeof fines];
+    image[25] = (uint8_t)(k % 3 ? 110 : k % 256), image[122] = fines[k / 3 % sizeof fines]; /* tRCD, below tRAS, above it, or beside it */
+    ddr4_holds(image, DDR4_NEEDS);
+  }
+}
+
+/* What spoils an image, for each refusal that comes behind 1, in their order. */
+enum { SPOILERS = 2 + DDR4_FIELDS };
+static void spoil(uint8_t *image, unsigned which) {
+  if (which & 1) image[2] = DDR5;
+  for (size_t k = 0; k < DDR4_FIELDS; k++)
+    if (which >> (1 + k) & 1) image[ddr4_fields[k].byte] = 0xFF;
+  if (which >> (1 + DDR4_FIELDS) & 1) image[26] = 0, image[121] = 0xFF; /* tRP is -1 */
+}
+
+/* Every value of every byte that has a code, and of byte 2, beside each set of the others that are spoilt: which refusal comes first. */
+static void ddr4_codes(void) {
+  static const size_t bytes[] = {2, 17, 4, 12, 13};
+  enum { BYTES = sizeof bytes / sizeof *bytes };
+  uint8_t image[IMAGE_MAX];
+  for (unsigned k = 0; k < BYTES * 256 << SPOILERS; k++) {
+    make_ddr4(image);
+    spoil(image, k >> 8 & ((1u << SPOILERS) - 1));
+    image[bytes[k >> (8 + SPOILERS)]] = (uint8_t)k;
+    ddr4_holds(image, DDR4_NEEDS);
+  }
+}
+
+/* Every length up to that of a whole image, at a guard page, beside each set that is spoilt: refusal 1 comes before it. */
+static void ddr4_lengths(void) {
+  uint8_t image[IMAGE_MAX];
+  for (unsigned k = 0; k < (DDR4_NEEDS + 2) << SPOILERS; k++) {
+    size_t n = k >> SPOILERS;
+    make_ddr4(image);
+    spoil(image, k & ((1u << SPOILERS) - 1));
+    uint8_t *edge = guarded_copy(image, n);
+    ddr4_holds(edge, n);
+    release(edge, n);
+    if (k % 64 == 0 || k % 64 == 63) ddr4_lists(image, n);
+  }
+  static const int32_t lacks[][2] = {{0, 2},   {2, 2},   {3, 4},    {5, 12},    {13, 13},   {14, 17},   {18, 18},
+                                     {19, 24}, {29, 29}, {30, 120}, {119, 120}, {123, 123}, {124, 125}, {125, 125}};
+  for (size_t k = 0; k < sizeof lacks / sizeof *lacks; k++) CHECK(TRUNCATED(ddr4_reads, (size_t)lacks[k][0]) == -(1 + 256 * lacks[k][1]));
+}
+
+/* Every set of times that are below zero: the first is told. */
+static void ddr4_negative(void) {
+  uint8_t image[IMAGE_MAX];
+  for (unsigned which = 0; which < 1u << DDR4_TIMES; which++) {
+    make_ddr4(image);
+    for (size_t k = 0; k < DDR4_TIMES; k++)
+      if (which >> k & 1) image[ddr4_times[k].units] = 1, image[ddr4_times[k].fine] = 0x82; /* 125 - 126 */
+    if (which >> (DDR4_TIMES - 1) & 1) image[27] &= 0x0F;
+    ddr4_holds(image, DDR4_NEEDS);
+    ddr4_lists(image, DDR4_NEEDS);
+  }
+}
+
+/* Every bus with every device, beside times in every order: each set of findings comes. */
+static void ddr4_findings(void) {
+  static const uint8_t units[] = {79, 80, 81}, fines[] = {0xFF, 0, 1};
+  uint8_t image[IMAGE_MAX];
+  for (unsigned k = 0; k < 16 * 81 * 3; k++) {
+    make_ddr4(image);
+    image[12] = (uint8_t)(k % 4 + 0xF8), image[13] = (uint8_t)(k / 4 % 4 + 0xF8), image[27] = 0;
+    image[25] = units[k / 16 % 3], image[122] = fines[k / 48 % 3], image[28] = units[k / 144 % 3];
+    image[29] = units[k / 432 % 3], image[120] = fines[k / 1296];
+    ddr4_holds(image, DDR4_NEEDS);
+    if (k % 7 == 0) ddr4_lists(image, DDR4_NEEDS);
+  }
+}
+
+/* No other byte counts, and no bytes behind; and images of random bytes, of which some decode. */
+static void ddr4_random(void) {
+  struct unruly lot = unruly(NULL, 0, 2028, 0);
+  uint8_t image[IMAGE_MAX];
+  for (unsigned k = 0; k < 40000; k++) {
+    for (size_t i = 0; i < 160; i++) image[i] = (uint8_t)pick(&lot, 256);
+    if (k % 8) image[2] = DDR4, image[17] &= 0xF0;
+    if (k % 4) image[4] &= 0xF7, image[12] &= 0xFB, image[13] &= 0xFB;
+    ddr4_holds(image, k % 16 ? 160 : pick(&lot, 160));
+  }
+  for (size_t at = 0; at < IMAGE_MAX; at++) {
+    make_ddr4(image);
+    image[at] = 0xFF;
+    ddr4_holds(image, IMAGE_MAX);
+  }
+}
+
+static void every_ddr4(void) {
+  known_ddr4();
+  ddr4_fine_parts();
+  ddr4_halves();
+  ddr4_codes();
+  ddr4_lengths();
+  ddr4_negative();
+  ddr4_findings();
+  ddr4_random();
+  for (size_t k = 0; k < sizeof ddr4_sets / sizeof *ddr4_sets; k++) CHECK(ddr4_sets[k] > 50); /* or a set of findings was not tried */
+  CHECK(ddr4_refused[1] > 100 && ddr4_refused[2] > 100 && ddr4_refused[3] > 100 && ddr4_refused[15] > 100);
+}
+
 int main(int argc, char **argv) {
   static uint8_t image[2 * IMAGE_MAX];
   if (argc < 2) {
@@ -1289,6 +1579,7 @@ int main(int argc, char **argv) {
     if (n <= 2 * BURST) continue;
     unruly_runs(image, n);
     burst_twice(image, n);
+    refused_not_kept(image, n);
     giving_up(image);
     streams(image, n);
     files(image, n);
@@ -1296,6 +1587,7 @@ int main(int argc, char **argv) {
   largest_report();
   known_crcs();
   every_clock();
+  every_ddr4();
   fresh_states();
   unknown_states();
   random_states();

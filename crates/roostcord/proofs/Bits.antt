@@ -1,5 +1,5 @@
 -- Every refusal that a call of the C library gives has its values within their bits, where what is lent are bytes: so no two of them have
--- the same word. A missing offset is one that is read, a field's number is at most 9, a code and a device type are bytes, a count has twelve
+-- the same word. A missing offset is one that is read, a field's number is at most 24, a code and a device type are bytes, a count has twelve
 -- bits. Assumes nothing.
 use Prim.Native.Nat.{ℕ, zero, suc, _+_, _<_}
 use mathlib.Core.Path.{_≡_, subst}
@@ -26,6 +26,8 @@ use Rattle.manufacturing.specs.declared.DateMode.the-variants.{AsIs}
 use Rattle.manufacturing.proofs.Refused.{manufacturing-refusals}
 use Rattle.crc.specs.Base.{crcRanges, baseCrcOf, soundIn, soundReadOf}
 use Rattle.crc.proofs.Refused.{crc-refusals}
+use Rattle.ddr4.specs.Module.{ddr4Ranges, ddr4At, ddr4Of}
+use Rattle.ddr4.proofs.Refused.{ddr4-refusals}
 use Rattle.rules.specs.declared.Edition.{Edition}
 use Rattle.rules.specs.Lint.{editionOf, findingsOf}
 use Rattle.rules.specs.Table.{allIn}
@@ -33,7 +35,7 @@ use Rattle.report.specs.Form.{restOf, findingsIn}
 use Rattle.report.specs.Read.{lengthIn, contentOf}
 use Rattle.report.specs.Write.{lintReportOf}
 use Rattle.pieces.specs.Fed.{keptBytes, acceptedAt, longest}
-use Rattle.roostcord.specs.Numbers.{crcNumber, identityList, timingsList, casNumbers, clocksList, modeOf, manufacturingList, partList, reportList, listedIn}
+use Rattle.roostcord.specs.Numbers.{crcNumber, identityList, timingsList, casNumbers, clocksList, modeOf, manufacturingList, ddr4List, ddr4LintList, partList, reportList, listedIn}
 use Rattle.roostcord.specs.Word.{refusalWord}
 use Rattle.roostcord.specs.Chosen.{chosen, lintIn}
 use Rattle.roostcord.specs.State.{short, countIn, editionIn, arrivedIn, asked, freshIn, feedIn, takenIn}
@@ -66,6 +68,41 @@ timings-fits v = timings-refusals Small v (λ i e. (omega (arith, named-before t
 block-fits : (mode : DateMode) (v : View) → Fits (manufacturingAt mode v)
 block-fits mode v =
     manufacturing-refusals mode v Small (λ i e. (omega (arith, named-before manufacturingRanges v i e), omega arith)) (λ e d. plain)
+
+-- a code of a DDR4 image is below 16, and a time's place at most 5
+ddr4-fits : (v : View) → v .byte 2 < 256 → Fits (ddr4At v)
+ddr4-fits v h =
+    ddr4-refusals v Small (λ i e. (omega (arith, named-before ddr4Ranges v i e), omega arith)) (
+      λ _. (omega arith, omega arith),
+      (
+        λ _. (omega arith, omega arith),
+        (
+          λ _. (omega arith, omega arith),
+          (
+            λ _. (omega arith, omega arith),
+            (
+              λ _. (omega arith, omega arith),
+              (
+                λ _. (omega arith, omega arith),
+                (
+                  λ _. (omega arith, omega arith),
+                  (
+                    λ _. (omega arith, omega arith),
+                    (
+                      λ _. (omega arith, omega arith),
+                      (
+                        λ _. (omega arith, omega arith),
+                        tt,
+                      ),
+                    ),
+                  ),
+                ),
+              ),
+            ),
+          ),
+        ),
+      ),
+    )
 
 table-fits : (t : Timings) → Fits (clockTableOf t)
 unfolding clockTableOf
@@ -134,6 +171,14 @@ module _ (s : List ℕ) (room : ℕ) where
   unfolding manufacturingList manufacturingOf
   manufacturing-bits strict =
       listed-fits 11 _ room (on-fits (manufacturingOf (modeOf strict) s) _ (block-fits (modeOf strict) (view s)) (λ m. tt))
+
+  pub ddr4-bits : AllBytes s → Fits (listedIn 9 (ddr4List s) room)
+  unfolding ddr4List ddr4Of
+  ddr4-bits h = listed-fits 9 _ room (on-fits (ddr4Of s) _ (ddr4-fits (view s) (h 2)) (λ d. tt))
+
+  pub ddr4-lint-bits : AllBytes s → Fits (listedIn 18 (ddr4LintList s) room)
+  unfolding ddr4LintList ddr4Of
+  ddr4-lint-bits h = listed-fits 18 _ room (on-fits (ddr4Of s) _ (ddr4-fits (view s) (h 2)) (λ d. tt))
 
   pub part-bits : Fits (listedIn 30 (partList s) room)
   unfolding partList manufacturingOf

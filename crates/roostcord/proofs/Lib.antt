@@ -1,6 +1,7 @@
 pub mod Words
 pub mod Answers
 pub mod Reports
+pub mod Ddr4
 pub mod Stores
 pub mod Feeding
 pub mod Tied

@@ -32,13 +32,13 @@ store [] (y ∷ d) x h = refl
 store (a ∷ p) [] x h = absurd (not-suc-le-zero h)
 store (a ∷ p) (y ∷ d) x h = ap (λ (l : List ℕ). a ∷ l) (store p d x (le-of-suc-le-suc h))
 
-stores : (vs p d : List ℕ) {k : ℕ} {o : List ℕ} → length p ≡ k → k + length vs ≤ length d → o ≡ laid p d → sets o k vs ≡ laid (p ++ vs) d
+pub stores : (vs p d : List ℕ) {k : ℕ} {o : List ℕ} → length p ≡ k → k + length vs ≤ length d → o ≡ laid p d → sets o k vs ≡ laid (p ++ vs) d
 stores [] p d e h q = q ∙ rw append-nil
 stores (x ∷ vs) p d e h q =
     stores vs (p ++ (x ∷ [])) d (omega (arith, length-append p (x ∷ []))) (omega arith) (rw (q, ← e) (store p d x (omega arith)))
     ∙ ap (λ (l : List ℕ). laid l d) (append-assoc p (x ∷ []) vs)
 
-six : (k a b c x y z : ℕ) (o : List ℕ) → set (set (set (set (set (set o k a) (k + 1) b) (k + 2) c) (k + 3) x) (k + 4) y) (k + 5) z ≡ sets o k (a ∷ b ∷ c ∷ x ∷ y ∷ z ∷ [])
+pub six : (k a b c x y z : ℕ) (o : List ℕ) → set (set (set (set (set (set o k a) (k + 1) b) (k + 2) c) (k + 3) x) (k + 4) y) (k + 5) z ≡ sets o k (a ∷ b ∷ c ∷ x ∷ y ∷ z ∷ [])
 six k a b c x y z o =
     let e₂ : k + 2 ≡ suc (suc k) = omega arith in
     let e₃ : k + 3 ≡ suc (suc (suc k)) = omega arith in

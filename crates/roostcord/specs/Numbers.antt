@@ -18,6 +18,9 @@ use Rattle.manufacturing.specs.declared.DateMode.{DateMode}
 use Rattle.manufacturing.specs.declared.DateMode.the-variants.{AsIs, Strict}
 use Rattle.manufacturing.specs.declared.Manufacturing.{Manufacturing}
 use Rattle.crc.specs.Base.{baseCrcOf}
+use Rattle.ddr4.specs.Module.{ddr4Of}
+use Rattle.ddr4.specs.declared.Ddr4.{Ddr4}
+use Rattle.ddr4rules.specs.Lint.{ddr4Found}
 use Rattle.findings.specs.declared.Finding.{Finding}
 use Rattle.findings.specs.Same.{severityNumber}
 use Rattle.report.specs.Read.{Content, contentOf}
@@ -99,6 +102,11 @@ manufacturingNumbers m partLength =
     ∷ partLength
     ∷ []
 
+-- nine numbers
+abbrev pub ddr4Numbers : Ddr4 → List ℕ
+ddr4Numbers d =
+    d .megabits ∷ d .«io_width_bits» ∷ d .«bus_width_bits» ∷ d .tck ∷ d .taa ∷ d .trcd ∷ d .trp ∷ d .tras ∷ d .trc ∷ []
+
 -- a report: its flags, and six numbers for each finding
 abbrev pub findingNumbers : List Finding → List ℕ
 findingNumbers [] = []
@@ -137,6 +145,13 @@ manufacturingList strict s = onward refuses (manufacturingOf (modeOf strict) s) 
 -- the part number's bytes, or the refusal of the block as it is
 unfoldable pub partList : List ℕ → Said (List ℕ)
 partList s = onward refuses (manufacturingOf AsIs s) (λ m. gives (partOf s))
+
+-- the record of a DDR4 image, and its findings
+unfoldable pub ddr4List : List ℕ → Said (List ℕ)
+ddr4List s = onward refuses (ddr4Of s) (λ d. gives (ddr4Numbers d))
+
+unfoldable pub ddr4LintList : List ℕ → Said (List ℕ)
+ddr4LintList s = onward refuses (ddr4Of s) (λ d. gives (findingNumbers (ddr4Found d)))
 
 -- the check of the base block: 1 where its CRC fits, 0 where it does not, or the refusal
 unfoldable pub crcNumber : List ℕ → Said ℕ

@@ -11,6 +11,6 @@ abbrev pub wordOf : Said ℕ → ℤ
 wordOf (gives n) = pos n
 wordOf (refuses t) = negℤ (pos (refusalWord t))
 
--- the version of the library, major * 65536 + minor * 256 + patch, as station/roostcord.h has it: 2.1.0
+-- the version of the library, major * 65536 + minor * 256 + patch, as station/roostcord.h has it: 2.2.0
 abbrev pub libraryVersion : ℕ
-libraryVersion = 0x020100
+libraryVersion = 0x020200

@@ -1,22 +1,28 @@
 // The station's library: what C calls. An answer of 0 or more is a count. Below zero it is a refusal: its word with a minus sign, and nothing
 // that was lent has changed. station/roostcord.h is its header.
 ghost use mathlib.Core.Path.{_≡_};
-ghost use Prim.Native.Nat.{_*_, _/_, _%_, _<_, _≤_};
+ghost use Prim.Native.Nat.{_+_, _*_, _/_, _%_, _<_, _≤_};
+ghost use mathlib.Core.List.{_++_};
 ghost use lib.IntN.{pos, negℤ};
 ghost use lib.ListN.{length, take};
 ghost use Rattle.reading.specs.Pick.{pick};
 ghost use Rattle.reading.specs.Said.{told, gives};
 ghost use Rattle.reading.specs.Lent.{laid};
 ghost use Rattle.decoders.specs.Identity.{wholeOf};
+ghost use Rattle.findings.specs.Hold.{toList};
 ghost use Rattle.crc.specs.Base.{soundReadOf};
 ghost use Rattle.rules.specs.Lint.{editionOf};
+ghost use Rattle.ddr4rules.specs.Lint.{inOrder};
 ghost use Rattle.report.specs.Write.{lintReportOf, lintReportAfter};
 ghost use Rattle.roostcord.specs.Word.{refusalWord, wordOf, libraryVersion};
 ghost use Rattle.roostcord.specs.Chosen.{lintIn, lintAfter};
-ghost use Rattle.roostcord.specs.Numbers.{crcNumber, identityNumbers, timingNumbers, clockNumbers, reportNumbers, identityList, timingsList, casNumbers, clocksList, manufacturingNumbers, modeOf, manufacturingList, partList, reportList, listedIn, listAfter};
+ghost use Rattle.roostcord.specs.Numbers.{crcNumber, identityNumbers, timingNumbers, clockNumbers, findingNumbers, reportNumbers, ddr4Numbers, ddr4List, ddr4LintList, identityList, timingsList, casNumbers, clocksList, manufacturingNumbers, modeOf, manufacturingList, partList, reportList, listedIn, listAfter};
 ghost use Rattle.roostcord.specs.State.{stateSize, countIn, editionIn, arrivedIn, asked, short, freshIn, freshAfter, feedIn, feedAfter, takenIn};
 use crc::CrcAnswer;
 use crc::SoundRead;
+use ddr4::Ddr4;
+use ddr4::Ddr4Answer;
+use ddr4rules::Ddr4Checked;
 use decoders::clocks::ClockTable;
 use decoders::clocks::ClockTableAnswer;
 use decoders::identity::Base;
@@ -30,6 +36,7 @@ use decoders::timing::CasListAnswer;
 use decoders::timing::TimingReach;
 use decoders::timing::Timings;
 use findings::Findings;
+use findings::Found;
 use manufacturing::DateMode;
 use manufacturing::Manufacturing;
 use manufacturing::ManufacturingAnswer;
@@ -49,7 +56,7 @@ const STATE_SIZE: usize = 2 + KEPT;
 pub extern "C" fn roostcord_version() -> u32
     ensures { λ r. ⌜ r ≡ libraryVersion ⌝ }
 {
-    0x020100
+    0x020200
 }
 
 // Lints an image under an edition, 1 or 2, and writes its report: how many bytes.
@@ -257,6 +264,42 @@ pub extern "C" fn roostcord_sound_read(first: &[u8], second: &[u8]) -> i32
         SoundRead::First => 1,
         SoundRead::Second => 2,
         SoundRead::Refused(why) => refusal_word(why),
+    }
+}
+
+// The record of a DDR4 image: nine numbers.
+#[no_mangle]
+pub extern "C" fn roostcord_ddr4(image: &[u8], out: &mut [u32]) -> i32
+    ensures answer { λ r. ⌜ r ≡ wordOf (listedIn 9 (ddr4List (now (image .entry))) (length (now (out .entry)))) ⌝ }
+    ensures later { λ r. ⌜ now (out .exit) ≡ listAfter 9 (ddr4List (now (image .entry))) (now (out .entry)) ⌝ }
+{
+    if out.len() < 9 {
+        return refusal_word(Refusal::ListTooShort);
+    }
+    match ddr4::decode_ddr4(image) {
+        Ddr4Answer::Decoded(d) => {
+            put_ddr4(d, out);
+            9
+        }
+        Ddr4Answer::Refused(why) => refusal_word(why),
+    }
+}
+
+// The findings of a DDR4 image: six numbers for each, as in a report, up to three findings.
+#[no_mangle]
+pub extern "C" fn roostcord_ddr4_lint(image: &[u8], out: &mut [u32]) -> i32
+    ensures answer { λ r. ⌜ r ≡ wordOf (listedIn 18 (ddr4LintList (now (image .entry))) (length (now (out .entry)))) ⌝ }
+    ensures later { λ r. ⌜ now (out .exit) ≡ listAfter 18 (ddr4LintList (now (image .entry))) (now (out .entry)) ⌝ }
+{
+    if out.len() < 18 {
+        return refusal_word(Refusal::ListTooShort);
+    }
+    match ddr4::decode_ddr4(image) {
+        Ddr4Answer::Decoded(d) => {
+            let n = put_checked(ddr4rules::check_ddr4(d), out);
+            count_word(n)
+        }
+        Ddr4Answer::Refused(why) => refusal_word(why),
     }
 }
 
@@ -603,6 +646,25 @@ fn put_manufacturing(m: Manufacturing, part_len: u32, out: &mut [u32])
     put(&numbers, out);
 }
 
+// The numbers of a DDR4 record, likewise.
+fn put_ddr4(d: Ddr4, out: &mut [u32])
+    requires { ⌜ 9 ≤ length (now out) ⌝ }
+    ensures { λ _. ⌜ now (out .exit) ≡ laid (ddr4Numbers d) (now (out .entry)) ⌝ }
+{
+    let numbers = [
+        d.megabits,
+        d.io_width_bits as u32,
+        d.bus_width_bits as u32,
+        d.tck,
+        d.taa,
+        d.trcd,
+        d.trp,
+        d.tras,
+        d.trc,
+    ];
+    put(&numbers, out);
+}
+
 // Which mode a caller's number asks for.
 fn mode(strict: u32) -> DateMode
     ensures { λ r. ⌜ r ≡ modeOf strict ⌝ }
@@ -633,6 +695,39 @@ fn put_report(flags: u8, found: Findings, out: &mut [u32])
         out[k + 4] = f.second;
         out[k + 5] = f.third;
         i += 1;
+    }
+}
+
+// What the three rules of a DDR4 record found, laid into a list that has room for the most: how many numbers.
+fn put_checked(said: Ddr4Checked, out: &mut [u32]) -> usize
+    requires { ⌜ 18 ≤ length (now out) ⌝ }
+    ensures { λ r. ⌜ (r ≡ length (findingNumbers (inOrder said))) × (now (out .exit) ≡ laid (findingNumbers (inOrder said)) (now (out .entry))) ⌝ }
+{
+    let devices = said.devices;
+    let ras = said.ras;
+    let rc = said.rc;
+    let one = put_found(devices, 0, out);
+    let two = put_found(ras, one, out);
+    put_found(rc, two, out)
+}
+
+// The six numbers of what a rule found, if it found something, behind the first `from` of a list: how many there are then.
+fn put_found(found: Found, from: usize, out: &mut [u32]) -> usize
+    requires { ⌜ from + 6 ≤ length (now out) ⌝ }
+    ensures { λ r. ⌜ (r ≡ from + length (findingNumbers (toList found))) × (now (out .exit) ≡ laid (take from (now (out .entry)) ++ findingNumbers (toList found)) (now (out .entry))) ⌝ }
+{
+    match found {
+        Found::Nothing => from,
+        Found::One(f) => {
+            let severity = f.severity;
+            out[from] = f.code as u32;
+            out[from + 1] = severity.number() as u32;
+            out[from + 2] = f.sub as u32;
+            out[from + 3] = f.first;
+            out[from + 4] = f.second;
+            out[from + 5] = f.third;
+            from + 6
+        }
     }
 }
 
