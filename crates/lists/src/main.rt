@@ -1,8 +1,8 @@
 // Calls what takes a lent list of records, which no other program does: with lists that are too short, exact and longer, and writes what
 // was answered, what stands in the places written, and how many of the others stayed as they were. Last, it asks for editions by number.
-// All is under edition 2 but where a line says edition 1.
+// All is under edition 2 but where a line says edition 1. DDR4 images are in `ddr4_cases`.
 //
-// A list is the first `len` of seventeen places, which all hold the finding `mark` before the call. The five functions that lend one are
+// A list is the first `len` of seventeen places, which all hold the finding `mark` before the call. The six functions that lend one are
 // straight lines, proved by hand: each hands the array and the answer back by value, so that the rest of the program is on values alone.
 ghost use mathlib.Core.Path.{_≡_};
 ghost use Prim.Native.Nat.{_≤_};
@@ -30,6 +30,8 @@ use rules::EditionAnswer;
 use rules::LintAnswer;
 use rules::RatedAnswer;
 use rules::RatedTimings;
+
+mod ddr4_cases;
 
 // What a call answered, and what then stands in the seventeen places.
 struct AfterLint {
@@ -597,5 +599,6 @@ fn main() {
     write_refused(list);
     read_most(list);
     read_two(list);
+    ddr4_cases::run(image);
     editions();
 }
