@@ -4,6 +4,7 @@ import pathlib
 
 HERE = pathlib.Path(__file__).resolve().parent
 SIZE = 1024  # as byte 0 says
+DDR4_SIZE = 512
 
 
 def crc16(data):
@@ -47,6 +48,34 @@ def module(row_times, date, serial, part, revision):
     return bytes(image)
 
 
+def ddr4():
+    """A DDR4-2400 UDIMM: one rank of 8 Gb dies, eight bits wide, on a bus of 64 bits."""
+    image = bytearray(DDR4_SIZE)
+
+    def time(units, fine, picoseconds):
+        image[units], image[fine] = -(-picoseconds // 125), picoseconds % -125 % 256  # the fine part takes away what is too much
+
+    image[0:15] = bytes([0x23, 0x11, 0x0C, 0x02, 0x85, 0x21, 0x00, 0x08, 0x00, 0x60, 0x00, 0x03, 0x01, 0x03, 0x00])
+    image[17] = 0  # units of 125 ps, and of 1 ps for the fine parts
+    time(18, 125, 833)  # tCKmin
+    time(19, 124, 1600)  # tCKmax
+    image[20:24] = sum(1 << cl - 7 for cl in range(10, 19)).to_bytes(4, "little")
+    for units, fine in ((24, 123), (25, 122), (26, 121)):
+        time(units, fine, 13750)  # tAA tRCD tRP
+    tras, trc = 32000 // 125, 45750 // 125
+    image[27:30] = bytes([trc // 256 * 16 + tras // 256, tras % 256, trc % 256])
+    for offset, units in ((30, 2800), (32, 2080), (34, 1280)):
+        image[offset : offset + 2] = units.to_bytes(2, "little")  # tRFC1 tRFC2 tRFC4
+    image[37] = 168  # tFAW
+    for units, fine, picoseconds in ((38, 119, 3300), (39, 118, 4900), (40, 117, 5000)):
+        time(units, fine, picoseconds)  # tRRD_S tRRD_L tCCD_L
+    image[42], image[44], image[45] = 120, 20, 60  # tWR tWTR_S tWTR_L
+    image[128:132] = bytes([0x11, 0x11, 0x00, 0x01])  # height, thickness, card A, mirrored
+    for block in (0, 128):
+        image[block + 126 : block + 128] = crc16(image[block : block + 126]).to_bytes(2, "little")
+    return bytes(image)
+
+
 def xxd(offset, data):
     """A line of xxd."""
     groups = " ".join(data[k : k + 2].hex() for k in range(0, len(data), 2))
@@ -61,3 +90,4 @@ arrived.insert(2, arrived[1])  # the burst of bytes 16 to 31 comes twice
 (HERE / "ddr5-4800b.bin").write_bytes(module((16000, 16000, 16000, 32000, 48000), "2631", "0A1B2C9F", "RCORD-U16 4800B", 19))
 (HERE / "ddr5-4800-burst-twice.xxd").write_text("".join(xxd(offset, data) for offset, data in arrived))
 (HERE / "ddr5-4800-burst-twice.bin").write_bytes(b"".join(data for _, data in arrived)[:SIZE])
+(HERE / "ddr4-2400.bin").write_bytes(ddr4())

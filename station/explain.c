@@ -11,13 +11,19 @@
 static void explain_code(int32_t answer, char *text) {
   if (ROOSTCORD_NUMBER(answer) == ROOSTCORD_NOT_DDR5) {
     snprintf(text, SENTENCE_MAX,
-             "Byte 2 is 0x%02x, and DDR5 has 0x%02x there: this is no DDR5 module, or it was not read from its first byte.",
-             (unsigned)ROOSTCORD_FIRST(answer), (unsigned)ROOSTCORD_DEVICE_DDR5);
+             "Byte 2 is 0x%02x, and DDR5 has 0x%02x there, DDR4 0x%02x: this is neither, or it was not read from its first byte.",
+             (unsigned)ROOSTCORD_FIRST(answer), (unsigned)ROOSTCORD_DEVICE_DDR5, (unsigned)ROOSTCORD_DEVICE_DDR4);
   } else {
     const struct code_field *field = field_of(ROOSTCORD_FIRST(answer));
     snprintf(text, SENTENCE_MAX, "Byte %d, bits %s (%s), has code %d, which stands for nothing. " AGAIN, field->byte, field->bits,
              field->name, (int)ROOSTCORD_SECOND(answer));
   }
+}
+
+/* Refusal 15: a fine part that takes away more than there is. */
+static void explain_negative(int32_t answer, char *text) {
+  const struct ddr4_time *time = ddr4_time_of(ROOSTCORD_FIRST(answer));
+  snprintf(text, SENTENCE_MAX, "%s (%s) make a time below zero. " AGAIN, time->bytes, time->name);
 }
 
 const char *explain_refusal(int32_t answer, int needs, char text[SENTENCE_MAX]) {
@@ -30,6 +36,7 @@ const char *explain_refusal(int32_t answer, int needs, char text[SENTENCE_MAX]) 
       return text;
     case ROOSTCORD_NOT_DDR5:
     case ROOSTCORD_UNKNOWN_CODE: explain_code(answer, text); return text;
+    case ROOSTCORD_NEGATIVE_TIME: explain_negative(answer, text); return text;
     case ROOSTCORD_WRONG_OFFSET:
       snprintf(text, SENTENCE_MAX,
                "None of it was taken. A burst that came before may be dropped; where bytes are missing, read again at offset %d.",
@@ -65,6 +72,10 @@ const char *explain_refusal(int32_t answer, int needs, char text[SENTENCE_MAX]) 
 
 const char *explain_wrong_crc(void) {
   return "Bytes 0 to 509 do not give the CRC that stands at 510 and 511: bytes were lost, doubled or changed. " AGAIN;
+}
+
+const char *explain_ddr4_read(void) {
+  return "Byte 2 is 0x0c: this is a DDR4 image, whose CRC is not checked, so it is never the sound one. Lint it without --two-reads.";
 }
 
 /* Codes 3 and 6: two times, named by the sub. */
@@ -139,5 +150,23 @@ const char *explain_finding(const uint32_t finding[ROOSTCORD_FINDING_COUNT], uin
     case ROOSTCORD_CODE_NON_INTEGER_CLOCK_TIMING: explain_times(code, sub, first, second, text); break;
     default: explain_geometry(code, sub, first, second, text);
   }
+  return text;
+}
+
+const char *explain_ddr4_finding(const uint32_t finding[ROOSTCORD_FINDING_COUNT], char text[SENTENCE_MAX]) {
+  unsigned long first = finding[ROOSTCORD_FINDING_FIRST], second = finding[ROOSTCORD_FINDING_SECOND];
+  if (finding[ROOSTCORD_FINDING_CODE] == ROOSTCORD_CODE_NON_INTEGER_DEVICE_COUNT)
+    snprintf(text, SENTENCE_MAX,
+             "Byte 13, bits 2-0, says a bus of %lu bits, and byte 12, bits 2-0, devices of %lu: no whole number of them fills it. " AGAIN,
+             first, second);
+  else if (finding[ROOSTCORD_FINDING_SUB] == ROOSTCORD_SUB_TRAS_TRCD)
+    snprintf(text, SENTENCE_MAX,
+             "Byte 28 and byte 27, bits 3-0 (tRAS), say %lu ps, which must not be less than bytes 25 and 122 (tRCD), %lu ps. " AGAIN, first,
+             second);
+  else
+    snprintf(text, SENTENCE_MAX,
+             "Byte 29, byte 27, bits 7-4, and byte 120 (tRC) say %lu ps, which must not be less than byte 28 and byte 27, bits 3-0 (tRAS), "
+             "%lu ps. " AGAIN,
+             first, second);
   return text;
 }

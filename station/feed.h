@@ -3,6 +3,9 @@
  * Bytes keep the offset at which they were read, always. The loop asks for a burst at an offset, feeds what comes with the offset at
  * which it came, and after refusal 5 asks again at the count that the refusal names. It never gives bytes another offset, so a burst
  * that comes twice, late or early can shift nothing: the library refuses it.
+ *
+ * Beside the state it keeps the image itself, for the calls that take a whole one: each burst that the library took, at the offset at
+ * which it was taken, and no other. So the image has what the state has, and nothing is read a second time.
  */
 #ifndef FEED_H
 #define FEED_H
@@ -44,7 +47,8 @@ enum feed_end {
   FEED_FAILED   /* reading failed */
 };
 
-/* How feeding ended. Whatever the end, the state holds the first `taken` bytes of the image, each at its own offset. */
+/* How feeding ended. Whatever the end, the state holds the first `taken` bytes of the image, each at its own offset, and so does the image
+ * that is kept; behind them that is as it was. */
 struct feed_result {
   enum feed_end end;
   size_t taken;    /* the count of bytes that the state has */
@@ -54,7 +58,9 @@ struct feed_result {
   int error;       /* FEED_FAILED: the errno */
 };
 
-/* Feeds a state, which roostcord_pieces_fresh made and which may have taken some bytes, to the end of the image. */
-struct feed_result feed_image(const struct reader *reader, size_t len, uint8_t state[ROOSTCORD_STATE_SIZE]);
+/* Feeds a state, which roostcord_pieces_fresh made and which may have taken some bytes, to the end of the image. What it takes is kept in
+ * `image` as well; of what it took before, that has the bytes if it was lent then too. */
+struct feed_result feed_image(const struct reader *reader, size_t len, uint8_t state[ROOSTCORD_STATE_SIZE],
+                              uint8_t image[ROOSTCORD_IMAGE_MAX]);
 
 #endif

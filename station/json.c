@@ -81,6 +81,10 @@ static void put_refusal(const char *key, int32_t answer, int needs, const struct
     put_text("field_name", field_of(ROOSTCORD_FIRST(answer))->name);
     put_number("code", (unsigned long long)ROOSTCORD_SECOND(answer));
   }
+  if (number == ROOSTCORD_NEGATIVE_TIME) {
+    put_number("place", (unsigned long long)ROOSTCORD_FIRST(answer));
+    put_text("time", ddr4_time_of(ROOSTCORD_FIRST(answer))->name);
+  }
   if (options->explain) put_text("explanation", explain_refusal(answer, needs, text));
   putchar('}');
 }
@@ -149,6 +153,12 @@ static void put_crc(int32_t answer, const struct options *options) {
   putchar('}');
 }
 
+/* A read that is a DDR4 image. */
+static void put_ddr4_read(const struct options *options) {
+  put_flag("ddr4", true);
+  if (options->explain) put_text("explanation", explain_ddr4_read());
+}
+
 /* Of two reads: which is sound, and what became of each. */
 static void put_reads(const struct subject *subject, const struct options *options) {
   if (!subject->reads) return;
@@ -162,6 +172,7 @@ static void put_reads(const struct subject *subject, const struct options *optio
     if (read->outcome == CHECKED) put_crc(read->answer, options);
     if (read->outcome == NOT_TAKEN) putchar(','), put_refusal("refused", read->answer, 0, options);
     if (read->outcome == UNREAD) put_text("unread", read->why);
+    if (read->outcome == OF_DDR4) put_ddr4_read(options);
     putchar('}');
   }
   putchar(']');
@@ -186,7 +197,7 @@ static void put_label(const struct records *r, const struct options *options) {
   putchar('}');
 }
 
-static void put_finding(const uint32_t *f, const struct options *options) {
+static void put_finding(const uint32_t *f, bool ddr4, const struct options *options) {
   char text[SENTENCE_MAX];
   uint32_t code = f[ROOSTCORD_FINDING_CODE], sub = f[ROOSTCORD_FINDING_SUB];
   const struct rule *rule = rule_of(code);
@@ -199,19 +210,22 @@ static void put_finding(const uint32_t *f, const struct options *options) {
   for (int k = 0; k < RULE_NUMBERS && rule->numbers[k]; k++)
     printf("%s\"%s\":%lu", k > 0 ? "," : "", rule->numbers[k], (unsigned long)f[ROOSTCORD_FINDING_FIRST + k]);
   putchar('}');
-  if (options->explain) put_text("explanation", explain_finding(f, options->edition, text));
+  if (options->explain) put_text("explanation", ddr4 ? explain_ddr4_finding(f, text) : explain_finding(f, options->edition, text));
   putchar('}');
 }
 
-static void put_findings(const struct findings *findings, const struct options *options) {
+static void put_flags(const struct findings *findings) {
   put_number("flags", findings->numbers[ROOSTCORD_REPORT_FLAGS]);
   put_flag("identity_decoded", decoded(findings, ROOSTCORD_FLAG_IDENTITY));
   put_flag("timings_decoded", decoded(findings, ROOSTCORD_FLAG_TIMINGS));
+}
+
+static void put_findings(const struct findings *findings, const struct options *options) {
   printf(",\"findings\":[");
   const char *comma = "";
   for (const uint32_t *f = NULL; next_finding(findings, &f); comma = ",") {
     fputs(comma, stdout);
-    put_finding(f, options);
+    put_finding(f, findings->ddr4, options);
   }
   putchar(']');
 }
@@ -227,8 +241,25 @@ void json_image(const struct subject *subject, const struct records *r, const st
   put_clocks(r, options);
   put_cas(r, options);
   if (!options->no_crc) put_crc(r->crc_answer, options);
+  put_flags(&r->findings);
   put_findings(&r->findings, options);
   if (options->label) put_label(r, options);
+  printf("}\n");
+}
+
+static void put_ddr4(const struct ddr4 *d, const struct options *options) {
+  if (put_if_refused("ddr4", d->answer, ROOSTCORD_DDR4_NEEDS, options)) return;
+  printf(",\"ddr4\":{");
+  put_fields(ddr4_fields, ROOSTCORD_DDR4_COUNT, d->numbers);
+  putchar('}');
+}
+
+void json_ddr4(const struct subject *subject, const struct ddr4 *d, const struct options *options) {
+  begin(subject);
+  put_number("bytes", (unsigned long long)d->bytes);
+  if (options->bursts) put_number("refused_bursts", subject->refused_bursts);
+  put_ddr4(d, options);
+  put_findings(&d->findings, options);
   printf("}\n");
 }
 
@@ -253,6 +284,7 @@ void json_stored(const struct subject *subject, const struct findings *findings,
     putchar(',');
     put_refusal("refused", findings->answer, 0, options);
   } else {
+    put_flags(findings);
     put_findings(findings, options);
   }
   printf("}\n");

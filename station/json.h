@@ -17,6 +17,9 @@ struct subject {
 /* An image, with its edition and all of its records; the base CRC unless --no-crc is given, and the label where it is asked for. */
 void json_image(const struct subject *subject, const struct records *records, const struct options *options);
 
+/* A DDR4 image, with its one record. */
+void json_ddr4(const struct subject *subject, const struct ddr4 *ddr4, const struct options *options);
+
 /* An image that the library did not take, or two reads of which neither is sound. */
 void json_refused(const struct subject *subject, int32_t answer, const struct options *options);
 

@@ -37,6 +37,18 @@ const struct record_field label_fields[LABEL_NUMBERS] = {
     [ROOSTCORD_MANUFACTURING_STEPPING] = {"dram_stepping", "DRAM stepping", COUNT},
 };
 
+const struct record_field ddr4_fields[ROOSTCORD_DDR4_COUNT] = {
+    [ROOSTCORD_DDR4_MEGABITS] = {"megabits", "density", MEGABITS},
+    [ROOSTCORD_DDR4_IO_WIDTH] = {"io_width", "I/O width", COUNT},
+    [ROOSTCORD_DDR4_BUS_WIDTH] = {"bus_width", "bus width", COUNT},
+    [ROOSTCORD_DDR4_TCK] = {"tCK", "tCK", PICOSECONDS},
+    [ROOSTCORD_DDR4_TAA] = {"tAA", "tAA", PICOSECONDS},
+    [ROOSTCORD_DDR4_TRCD] = {"tRCD", "tRCD", PICOSECONDS},
+    [ROOSTCORD_DDR4_TRP] = {"tRP", "tRP", PICOSECONDS},
+    [ROOSTCORD_DDR4_TRAS] = {"tRAS", "tRAS", PICOSECONDS},
+    [ROOSTCORD_DDR4_TRC] = {"tRC", "tRC", PICOSECONDS},
+};
+
 const char *const clock_names[ROOSTCORD_CLOCKS_COUNT] = {
     [ROOSTCORD_CLOCKS_TAA] = "tAA",     [ROOSTCORD_CLOCKS_TRCD] = "tRCD",   [ROOSTCORD_CLOCKS_TRP] = "tRP",
     [ROOSTCORD_CLOCKS_TRAS] = "tRAS",   [ROOSTCORD_CLOCKS_TRC] = "tRC",     [ROOSTCORD_CLOCKS_TWR] = "tWR",
@@ -67,6 +79,18 @@ static const struct code_field fields[] = {
     [ROOSTCORD_FIELD_BANKS_PER_GROUP] = {"banks per group", 7, "2-0"},
     [ROOSTCORD_FIELD_BUS_WIDTH] = {"bus width", 235, "2-0"},
     [ROOSTCORD_FIELD_CHANNELS] = {"channels", 235, "7-5"},
+    [ROOSTCORD_FIELD_DDR4_TIMEBASE] = {"timebase", 17, "3-0"},
+    [ROOSTCORD_FIELD_DDR4_DENSITY] = {"density", 4, "3-0"},
+    [ROOSTCORD_FIELD_DDR4_IO_WIDTH] = {"I/O width", 12, "2-0"},
+    [ROOSTCORD_FIELD_DDR4_BUS_WIDTH] = {"bus width", 13, "2-0"},
+};
+
+static const struct ddr4_time ddr4_times[] = {
+    [ROOSTCORD_DDR4_TIME_TCK] = {"tCK", "Bytes 18 and 125"},
+    [ROOSTCORD_DDR4_TIME_TAA] = {"tAA", "Bytes 24 and 123"},
+    [ROOSTCORD_DDR4_TIME_TRCD] = {"tRCD", "Bytes 25 and 122"},
+    [ROOSTCORD_DDR4_TIME_TRP] = {"tRP", "Bytes 26 and 121"},
+    [ROOSTCORD_DDR4_TIME_TRC] = {"tRC", "Byte 29, byte 27, bits 7-4, and byte 120"},
 };
 
 static const char *const refusals[] = {
@@ -83,6 +107,7 @@ static const char *const refusals[] = {
     [ROOSTCORD_REPORT_MALFORMED] = "report-malformed",
     [ROOSTCORD_WRONG_DATE] = "wrong-date",
     [ROOSTCORD_UNKNOWN_EDITION] = "unknown-edition",
+    [ROOSTCORD_NEGATIVE_TIME] = "negative-time",
     [ROOSTCORD_NEITHER_SOUND] = "neither-sound",
 };
 
@@ -116,7 +141,12 @@ const struct rule *rule_of(uint32_t code) {
 
 const struct code_field *field_of(int field) {
   static const struct code_field none = {unknown, 0, "7-0"};
-  return field > 0 && (size_t)field < LENGTH(fields) ? &fields[field] : &none;
+  return field > 0 && (size_t)field < LENGTH(fields) && fields[field].name ? &fields[field] : &none;
+}
+
+const struct ddr4_time *ddr4_time_of(int place) {
+  static const struct ddr4_time none = {unknown, "Bytes"};
+  return place > 0 && (size_t)place < LENGTH(ddr4_times) ? &ddr4_times[place] : &none;
 }
 
 const char *refusal_name(int number) { return word(refusals, LENGTH(refusals), (size_t)number); }

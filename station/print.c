@@ -11,7 +11,8 @@ static void print_refusal(int32_t answer, int needs, const struct options *optio
   char text[SENTENCE_MAX];
   int number = ROOSTCORD_NUMBER(answer);
   printf("refused %d", number);
-  if (number == ROOSTCORD_TRUNCATED || number == ROOSTCORD_NOT_DDR5 || number == ROOSTCORD_UNKNOWN_CODE)
+  if (number == ROOSTCORD_TRUNCATED || number == ROOSTCORD_NOT_DDR5 || number == ROOSTCORD_UNKNOWN_CODE ||
+      number == ROOSTCORD_NEGATIVE_TIME)
     printf(" %d", ROOSTCORD_FIRST(answer));
   if (number == ROOSTCORD_UNKNOWN_CODE) printf(" %d", ROOSTCORD_SECOND(answer));
   printf("\n");
@@ -35,16 +36,25 @@ static void print_crc(int32_t answer, const struct options *options) {
   if (wrong && options->explain) printf("  %s\n", explain_wrong_crc());
 }
 
+/* What became of a read. */
+static void print_read(const struct read_outcome *read, const struct options *options) {
+  switch (read->outcome) {
+    case CHECKED: print_crc(read->answer, options); break;
+    case NOT_TAKEN: print_refusal(read->answer, 0, options); break;
+    case UNREAD: printf("unread\n"); break;
+    case OF_DDR4:
+      printf("ddr4\n");
+      if (options->explain) printf("  %s\n", explain_ddr4_read());
+      break;
+  }
+}
+
 void print_reads(const struct read_outcome reads[READS], int32_t sound, const struct options *options) {
   if (ROOSTCORD_REFUSED(sound)) print_refusal(sound, 0, options);
   else printf("sound read %d %s\n", (int)sound, reads[sound - ROOSTCORD_FIRST_READ].shown);
   for (int k = 0; k < READS; k++) {
     printf("read %d ", k + ROOSTCORD_FIRST_READ);
-    switch (reads[k].outcome) {
-      case CHECKED: print_crc(reads[k].answer, options); break;
-      case NOT_TAKEN: print_refusal(reads[k].answer, 0, options); break;
-      case UNREAD: printf("unread\n"); break;
-    }
+    print_read(&reads[k], options);
   }
 }
 
@@ -56,7 +66,8 @@ static void print_findings(const struct findings *findings, const struct options
     if (f[ROOSTCORD_FINDING_SUB] != ROOSTCORD_SUB_NONE) printf(" %lu", (unsigned long)f[ROOSTCORD_FINDING_SUB]);
     for (int k = 0; k < RULE_NUMBERS && rule->numbers[k]; k++) printf(" %lu", (unsigned long)f[ROOSTCORD_FINDING_FIRST + k]);
     printf("\n");
-    if (options->explain) printf("  %s\n", explain_finding(f, options->edition, text));
+    if (!options->explain) continue;
+    printf("  %s\n", findings->ddr4 ? explain_ddr4_finding(f, text) : explain_finding(f, options->edition, text));
   }
   printf("findings %lu\n", (unsigned long)count_findings(findings));
 }
@@ -72,6 +83,8 @@ static void print_fields(const struct record_field *fields, int count, const uin
       case MODULE: printf("%lu %s\n", n, module_name(numbers[i])); break;
       case PACKAGE: printf("%lu %s\n", n, package_name(numbers[i])); break;
       case SERIAL: printf("%08lX\n", n); break;
+      case MEGABITS: printf("%lu Mb\n", n); break;
+      case PICOSECONDS: printf("%lu ps\n", n); break;
     }
   }
 }
@@ -125,6 +138,13 @@ void print_image(const struct records *r, const struct options *options) {
   if (options->identity && !ROOSTCORD_REFUSED(r->identity_answer)) print_fields(identity_fields, ROOSTCORD_IDENTITY_COUNT, r->identity);
   if (options->timings && !ROOSTCORD_REFUSED(r->timings_answer)) print_timings(r, options);
   if (options->label) print_label(r, options);
+}
+
+void print_ddr4(const struct ddr4 *d, const struct options *options) {
+  printf("bytes %ld\n", (long)d->bytes);
+  print_decoder("ddr4", d->answer, ROOSTCORD_DDR4_NEEDS, options);
+  print_findings(&d->findings, options);
+  if ((options->identity || options->timings) && !ROOSTCORD_REFUSED(d->answer)) print_fields(ddr4_fields, ROOSTCORD_DDR4_COUNT, d->numbers);
 }
 
 void print_stored(const struct findings *findings, size_t bytes, const struct options *options) {

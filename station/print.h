@@ -8,6 +8,9 @@
  * and label where they are asked for. */
 void print_image(const struct records *records, const struct options *options);
 
+/* A DDR4 image: bytes, its one record and findings; the numbers of the record where identity or timings are asked for. */
+void print_ddr4(const struct ddr4 *ddr4, const struct options *options);
+
 /* An image that the library did not take. */
 void print_refused(int32_t answer, const struct options *options);
 

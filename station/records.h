@@ -14,11 +14,21 @@ enum status {
   MISUSED = 3     /* the words of the command line do not make sense */
 };
 
-/* The numbers of a report: how many, or the refusal. */
+/* The numbers of a report: how many, or the refusal. Findings of a DDR4 image stand in the same places, and the flags of it are 0. */
 struct findings {
   int32_t answer;
   uint32_t numbers[ROOSTCORD_REPORT_NUMBERS];
+  bool ddr4;
 };
+
+/* What was taken of an image: by the state, and the same bytes beside it, as feed_image keeps them. */
+struct taken {
+  uint8_t state[ROOSTCORD_STATE_SIZE];
+  uint8_t image[ROOSTCORD_IMAGE_MAX];
+};
+
+/* Whether it is a DDR4 image: whether byte 2 of what was taken says so. */
+bool is_ddr4(const struct taken *taken);
 
 /* Each record with the library's answer: a list is there where its answer is no refusal. */
 struct records {
@@ -37,6 +47,16 @@ struct records {
 /* Asks the library all of it about a state, and for the date as ROOSTCORD_DATE_.. says. */
 void ask_records(const uint8_t state[ROOSTCORD_STATE_SIZE], uint32_t date, struct records *records);
 
+/* What the library says of a DDR4 image: its numbers are there where the answer is no refusal. */
+struct ddr4 {
+  int32_t bytes, answer;
+  uint32_t numbers[ROOSTCORD_DDR4_COUNT];
+  struct findings findings;
+};
+
+/* Asks the library all of it about the bytes that were taken. */
+void ask_ddr4(const struct taken *taken, struct ddr4 *ddr4);
+
 /* Whether the findings have another one, from *finding on: NULL at first, then the one that was handed out last. */
 bool next_finding(const struct findings *findings, const uint32_t **finding);
 
@@ -48,7 +68,8 @@ bool decoded(const struct findings *findings, uint32_t flag);
 enum outcome {
   CHECKED,   /* the state took all of it, and was asked for its base CRC */
   NOT_TAKEN, /* the library refused some of it: 6 */
-  UNREAD     /* it could not be read whole */
+  UNREAD,    /* it could not be read whole */
+  OF_DDR4    /* the state took all of it, and it is a DDR4 image, whose CRC is not checked */
 };
 
 struct read_outcome {
@@ -70,5 +91,8 @@ enum status status_of_crc(int32_t answer);
 
 /* What a report comes to. A record that was not decoded counts like a refusal. */
 enum status status_of(const struct findings *findings, bool strict);
+
+/* What a DDR4 image comes to. */
+enum status status_of_ddr4(const struct ddr4 *ddr4, bool strict);
 
 #endif

@@ -1,6 +1,7 @@
 /* The station's host program: reads SPD images, or logs of the bursts of an image, feeds each burst with the offset at which it was read
  * to the proved library, and prints what the library says. All that is judged is judged in libroostcord.a, on the bytes that its states
- * took: the base CRC too, since one that was checked on a reader's own copy let forty false certificates pass.
+ * took: the base CRC too, since one that was checked on a reader's own copy let forty false certificates pass. A DDR4 image is judged
+ * whole, on the same bytes: the feeding loop keeps each burst that a state took beside it, at its own offset.
  *
  *   options.c  the words of the command line        feed.c, readers.c, log.c  where the bytes come from
  *   records.c  the questions to the library         print.c, json.c           how the answers are printed
@@ -53,12 +54,12 @@ static struct feed_result not_opened(struct input *input) {
 }
 
 /* Feeds a file, which is read at the offsets that are asked for, or what cannot go back: standard input, or a pipe by name. */
-static struct feed_result feed_file(struct input *input, const struct options *options, uint8_t *state) {
+static struct feed_result feed_file(struct input *input, const struct options *options, struct taken *taken) {
   struct source source;
   int fd = input->path ? open(input->path, O_RDONLY) : STDIN_FILENO;
   if (fd < 0) return not_opened(input);
   struct reader reader = input->path && can_seek(fd) ? file_reader(&source, fd) : stream_reader(&source, fd);
-  struct feed_result fed = feed_image(&reader, options->burst, state);
+  struct feed_result fed = feed_image(&reader, options->burst, taken->state, taken->image);
   if (input->path) close(fd);
   if (fed.end != FEED_WHOLE) say_why(input, &fed);
   return fed;
@@ -72,13 +73,13 @@ static void tell_explained(void *context, const struct burst *burst, int32_t ans
 }
 
 /* Feeds a log of bursts, a line each. */
-static struct feed_result feed_log(struct input *input, const struct options *options, uint8_t *state) {
+static struct feed_result feed_log(struct input *input, const struct options *options, struct taken *taken) {
   struct log log;
   FILE *file = input->path ? fopen(input->path, "r") : stdin;
   if (!file) return not_opened(input);
   struct reader reader = log_reader(&log, file, input->shown);
   if (options->explain) reader.refused = tell_explained;
-  struct feed_result fed = feed_image(&reader, ROOSTCORD_IMAGE_MAX, state);
+  struct feed_result fed = feed_image(&reader, ROOSTCORD_IMAGE_MAX, taken->state, taken->image);
   if (input->path) fclose(file);
   input->refused_bursts = log.refused;
   if (log.fault) snprintf(input->why, WHY_MAX, "line %lu: %s", log.line, log.fault);
@@ -110,6 +111,25 @@ static enum status show_image(struct subject *subject, const uint8_t *state, con
   return subject->status;
 }
 
+/* Tells of what was asked for and a DDR4 image does not have. Answers what that counts for. */
+static enum status tell_lacking(const struct input *input, const struct options *options) {
+  if (options->label) fprintf(stderr, "station: %s: no label: the manufacturing block of a DDR4 image is not decoded\n", input->shown);
+  if (options->report)
+    fprintf(stderr, "station: %s: no report was written: reports are of DDR5 images, and %s is a DDR4 image\n", options->report,
+            input->shown);
+  return options->label || options->report ? UNREADABLE : CLEAN;
+}
+
+/* What the library says of a whole DDR4 image. */
+static enum status show_ddr4(struct subject *subject, const struct input *input, const struct taken *taken, const struct options *options) {
+  struct ddr4 ddr4;
+  ask_ddr4(taken, &ddr4);
+  subject->status = worse(tell_lacking(input, options), status_of_ddr4(&ddr4, options->strict));
+  if (options->json) json_ddr4(subject, &ddr4, options);
+  else print_ddr4(&ddr4, options);
+  return subject->status;
+}
+
 /* An image that is not whole. Nothing of it is listed; too long a one is, as refused. */
 static enum status show_fault(const struct subject *subject, const struct input *input, const struct feed_result *fed,
                               const struct options *options) {
@@ -129,29 +149,36 @@ static bool overwrites(const struct input *input, const struct options *options)
 }
 
 /* Feeds what a name stands for to a fresh state of the edition that is asked for. */
-static struct feed_result feed_input(struct input *input, const struct options *options, uint8_t state[ROOSTCORD_STATE_SIZE]) {
-  int32_t answer = roostcord_pieces_fresh(state, ROOSTCORD_STATE_SIZE, options->edition);
+static struct feed_result feed_input(struct input *input, const struct options *options, struct taken *taken) {
+  int32_t answer = roostcord_pieces_fresh(taken->state, ROOSTCORD_STATE_SIZE, options->edition);
   if (ROOSTCORD_REFUSED(answer)) return (struct feed_result){.end = FEED_FAILED}; /* never */
-  return options->bursts ? feed_log(input, options, state) : feed_file(input, options, state);
+  return options->bursts ? feed_log(input, options, taken) : feed_file(input, options, taken);
 }
 
 static enum status lint_named(const char *name, const struct options *options) {
   struct input input = input_named(name);
-  uint8_t state[ROOSTCORD_STATE_SIZE];
+  struct taken taken;
   if (overwrites(&input, options)) return MISUSED;
-  struct feed_result fed = feed_input(&input, options, state);
+  struct feed_result fed = feed_input(&input, options, &taken);
   struct subject subject = {.kind = "image", .name = name, .refused_bursts = input.refused_bursts};
   subject.status = fed.end == FEED_WHOLE ? CLEAN : UNREADABLE;
   bool listed = fed.end == FEED_WHOLE || fed.end == FEED_REFUSED;
   if (options->count > 1 && listed && !options->json) printf("%s:\n", input.shown);
-  return fed.end == FEED_WHOLE ? show_image(&subject, state, options) : show_fault(&subject, &input, &fed, options);
+  if (fed.end != FEED_WHOLE) return show_fault(&subject, &input, &fed, options);
+  return is_ddr4(&taken) ? show_ddr4(&subject, &input, &taken, options) : show_image(&subject, taken.state, options);
 }
 
-/* What became of a read, by what its state answers; what is not whole is told. */
-static struct read_outcome outcome_of(const struct input *input, const struct feed_result *fed, const uint8_t *state) {
+static enum outcome kind_of(const struct feed_result *fed, const struct taken *taken) {
+  if (fed->end == FEED_WHOLE) return is_ddr4(taken) ? OF_DDR4 : CHECKED;
+  return fed->end == FEED_REFUSED ? NOT_TAKEN : UNREAD;
+}
+
+/* What became of a read, by what its state answers; what is not whole is told, and what cannot be checked. */
+static struct read_outcome outcome_of(struct input *input, const struct feed_result *fed, const struct taken *taken) {
   struct read_outcome read = {.name = input->name, .shown = input->shown, .why = input->why, .refused_bursts = input->refused_bursts};
-  read.outcome = fed->end == FEED_WHOLE ? CHECKED : fed->end == FEED_REFUSED ? NOT_TAKEN : UNREAD;
-  read.answer = read.outcome == CHECKED ? roostcord_pieces_crc(state, ROOSTCORD_STATE_SIZE) : fed->refusal;
+  read.outcome = kind_of(fed, taken);
+  read.answer = read.outcome == CHECKED ? roostcord_pieces_crc(taken->state, ROOSTCORD_STATE_SIZE) : fed->refusal;
+  if (read.outcome == OF_DDR4) snprintf(input->why, WHY_MAX, "the CRC of a DDR4 image is not checked, so --two-reads cannot choose it");
   if (read.outcome != CHECKED) tell(input);
   return read;
 }
@@ -168,14 +195,14 @@ static enum status show_neither(struct subject *subject, const struct options *o
 /* Feeds two reads of one module, each to a state of its own, and lints the one whose state says that it is sound. */
 static enum status lint_two(const struct options *options) {
   struct input inputs[READS] = {input_named(options->names[0]), input_named(options->names[1])};
-  uint8_t states[READS][ROOSTCORD_STATE_SIZE];
+  struct taken taken[READS];
   struct read_outcome reads[READS];
   struct subject subject = {.kind = "image", .reads = reads, .status = CLEAN};
   if (overwrites(&inputs[0], options) || overwrites(&inputs[1], options)) return MISUSED;
   for (int k = 0; k < READS; k++) {
-    struct feed_result fed = feed_input(&inputs[k], options, states[k]);
-    reads[k] = outcome_of(&inputs[k], &fed, states[k]);
-    if (reads[k].outcome != CHECKED) subject.status = UNREADABLE; /* something could not be read, even if the other one is sound */
+    struct feed_result fed = feed_input(&inputs[k], options, &taken[k]);
+    reads[k] = outcome_of(&inputs[k], &fed, &taken[k]);
+    if (reads[k].outcome != CHECKED) subject.status = UNREADABLE; /* one could not be read or checked, even if the other one is sound */
   }
   subject.sound = sound_read(reads);
   if (!options->json) print_reads(reads, subject.sound, options);
@@ -183,7 +210,7 @@ static enum status lint_two(const struct options *options) {
   int chosen = (int)subject.sound - ROOSTCORD_FIRST_READ;
   subject.name = reads[chosen].name;
   subject.refused_bursts = reads[chosen].refused_bursts;
-  return show_image(&subject, states[chosen], options);
+  return show_image(&subject, taken[chosen].state, options);
 }
 
 /* Lists a stored report. */
@@ -191,7 +218,7 @@ static enum status list_stored(const struct options *options) {
   static uint8_t bytes[STORED_MAX];
   struct input input = input_named(options->read_report);
   struct subject subject = {.kind = "report", .name = input.name, .status = UNREADABLE};
-  struct findings findings;
+  struct findings findings = {.ddr4 = false};
   size_t len = 0;
   int error = load_report(input.path, bytes, &len);
   if (error != 0) {
