@@ -7,7 +7,7 @@ import pathlib
 import re
 
 TOP = pathlib.Path(__file__).resolve().parent.parent
-CRATES = ["reading", "findings", "decoders", "manufacturing", "crc", "pieces", "roostcord", "rules", "report"]
+CRATES = ["reading", "findings", "decoders", "manufacturing", "ddr4", "crc", "pieces", "roostcord", "rules", "ddr4rules", "report"]
 
 
 def digest(*parts):
