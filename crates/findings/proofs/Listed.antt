@@ -10,6 +10,7 @@
 --     check_rated_profile  Plan, of-findings, of-usize, of-enum, itself, count, filled-by; by-value₃, of-struct
 --     lint                 the plan of a linter (rules/proofs/Linter.antt), by-bytes₃.    a lint of a state by value    that plan, by-value, of-struct
 --     a report's read      Plan, of-struct, of-enum, at-field, filled-by; by-bytes
+--     a DDR4 lint          Plan, of-struct, of-enum, at-field, itself, filled-by; by-bytes
 --     a report's write     is a walk of its own, since it reads a list: asks, holds, of-findings, of-enum, Met, linked, cites, meets
 -- Assumes nothing.
 use mathlib.Core.Path.{_≡_, refl, sym, _∙_, ap, subst}
