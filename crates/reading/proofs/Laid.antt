@@ -1,5 +1,5 @@
 -- What one more write makes of a lent list. Assumes nothing.
-use Prim.Native.Nat.{suc, ◌+◌, ◌<◌, ◌≤◌}
+use Prim.Native.Nat.{suc, ◌<◌, ◌≤◌}
 use mathlib.Core.Path.{◌≡◌, ◌∙◌}
 use mathlib.Core.List.{List, [], ◌∷◌, ◌++◌, append_assoc}
 use native.Mathlib.Omega.{arith}

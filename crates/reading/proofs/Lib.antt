@@ -1,7 +1,6 @@
 pub mod Picked
 pub mod Once
 pub mod Clip
-pub mod Room
 pub mod Laid
 pub mod Lacking
 pub mod Smallest

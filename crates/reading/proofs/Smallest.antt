@@ -7,7 +7,7 @@ use mathlib.Core.Bool.{Bool, true, false, true≢false}
 use native.Mathlib.Omega.{arith}
 use lib.Dec.{eqb, leb, ltb}
 use borrow.Author.Tests.{le-leb, lt-ltb, leb-true, ltb-true, ltb-false, eqb-true, eqb-false}
-use Rattle.reading.specs.Pick.{pick, and}
+use Rattle.reading.specs.Pick.{pick}
 use Rattle.reading.specs.View.{View}
 use Rattle.reading.specs.Ranges.{in_range, reads, first_lacking, smaller, missing_at}
 use Rattle.reading.specs.declared.Missing.{Missing}

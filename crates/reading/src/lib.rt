@@ -1,5 +1,7 @@
 // Reading a lent image: a byte at an offset, or a region, absent where the image is too short.
 // Every offset and every length has an answer, also where their sum would not fit in a usize.
+#![tactic(auto)]
+
 ghost use Rattle.std.specs.Prelude.{◌≡◌};
 ghost use Rattle.reading.specs.View.{view};
 ghost use Rattle.reading.specs.Said.{told, carried};
@@ -7,7 +9,7 @@ ghost use Rattle.reading.specs.Bytes.{byte_at, inside_at, region_of};
 ghost use Rattle.reading.specs.Ranges.{ranges_of, first_lacking, smaller, missing_at, truncated_by};
 
 // Why a call was refused; specs/Said.antt has document 01's number for each case. One enum for all layers.
-#[derive(Drop)]
+#[derive(Clone, Copy)]
 pub enum Refusal {
     // The image lacks a byte that the decoder reads; the smallest such offset is carried.
     Truncated(usize),
@@ -142,7 +144,7 @@ impl Refusal {
 }
 
 // What stands at an offset.
-#[derive(Drop)]
+#[derive(Clone, Copy)]
 pub enum ByteAt {
     Byte(u8),
     Absent,
@@ -192,7 +194,7 @@ pub fn slice(image: &[u8], offset: usize, len: usize) -> &[u8]
 }
 
 // The smallest offset that is read and that the image lacks.
-#[derive(Drop)]
+#[derive(Clone, Copy)]
 pub enum Missing {
     Nothing,
     At(usize),
