@@ -1,11 +1,11 @@
 -- How a list of findings, the array that holds it and a lent list go over into each other; and how far the two loops go.
 -- Assumes nothing.
-use Prim.Native.Nat.{ℕ, suc, ◌+◌, ◌-◌, ◌<◌, ◌≤◌}
+use Prim.Native.Nat.{ℕ, ◌+◌, ◌-◌, ◌<◌, ◌≤◌}
 use mathlib.Core.Path.{◌≡◌, refl, ap, sym, ◌∙◌}
 use mathlib.Core.List.{List, [], ◌∷◌, ◌++◌, append_assoc}
 use native.Mathlib.Omega.{arith}
 use native.Mathlib.Numerals.{add-one}
-use borrow.Author.Tests.{lt-ltb, le-ltb, ltb-true, ltb-false}
+use borrow.Author.Tests.{lt-ltb, ltb-true, ltb-false}
 use lib.Dec.{ltb}
 use lib.ListN.{length, take, drop, set, get_or, replicate, length-append, length-replicate, replicate-append-replicate}
 use lib.Seq.{length-take-le, take-suc, take-append_seam, take-length, drop_at}
@@ -39,10 +39,6 @@ places-le len need count =
 pub kept-few : (len : ℕ) → len < 16 → load_count len ≡ len
 unfolding load_count
 kept-few len h = rw (lt-ltb len 16 h)
-
-pub kept-many : (len : ℕ) → 16 ≤ len → load_count len ≡ 0
-unfolding load_count
-kept-many len h = rw (le-ltb len 16 h)
 
 pub kept-le : (len : ℕ) → (load_count len ≤ 15) × (load_count len ≤ len)
 unfolding load_count

@@ -1,6 +1,2 @@
 pub mod Same
 pub mod Laws
-pub mod Adding
-pub mod Walked
-pub mod Walk
-pub mod Listed

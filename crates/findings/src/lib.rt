@@ -1,5 +1,7 @@
 // Findings: the record, when two are the same, fifteen of them by value with a count, and the two loops between those and a lent list.
 // No other function walks a list of records, so the proofs done by hand stand here alone.
+#![tactic(auto)]
+
 ghost use Rattle.std.specs.Prelude.{◌≡◌, [], ◌∷◌, ◌<◌, length, take};
 ghost use Rattle.reading.specs.Lent.{laid};
 ghost use Rattle.findings.specs.Same.{severity_number, same_numbers, same_finding};
@@ -7,7 +9,7 @@ ghost use Rattle.findings.specs.Hold.{blank_finding, blank_items, holding, cat};
 ghost use Rattle.findings.specs.Adding.{added};
 ghost use Rattle.findings.specs.Lent.{places_of, load_count, loaded_of};
 
-#[derive(Drop)]
+#[derive(Clone, Copy)]
 pub enum Severity {
     // The image breaks a rule that it must keep.
     Error,
@@ -30,7 +32,7 @@ impl Severity {
     }
 }
 
-#[derive(Drop)]
+#[derive(Clone, Copy)]
 pub struct Finding {
     pub code: u8,
     pub severity: Severity,
@@ -42,6 +44,7 @@ pub struct Finding {
 
 impl Finding {
     // Whether two findings are the same in every part.
+    #[tactic(auto, unfolding(crate::specs::Same::same_finding))]
     pub fn same(self, other: Finding) -> bool
         ensures { result ≡ same_finding self other }
     {
@@ -73,14 +76,14 @@ impl Finding {
 }
 
 // What one rule answers.
-#[derive(Drop)]
+#[derive(Clone, Copy)]
 pub enum Found {
     Nothing,
     One(Finding),
 }
 
 // The first `count` places of `items` are in use; the others are blank.
-#[derive(Drop)]
+#[derive(Clone, Copy)]
 pub struct Findings {
     pub items: [Finding; 15],
     pub count: usize,
@@ -109,6 +112,7 @@ pub fn blanks() -> [Finding; 15]
 }
 
 // What three rules answered, in their order.
+#[tactic(auto, unfolding(crate::specs::Hold::holding))]
 pub fn of_three(a: Found, b: Found, c: Found) -> Findings
     ensures { result ≡ holding (cat (a ∷ b ∷ c ∷ [])) }
 {
@@ -141,6 +145,7 @@ fn added(found: Findings, x: Found) -> Findings
 }
 
 // How many places of a list of `len` places are written: none where it has fewer than `need`.
+#[tactic(auto, unfolding(crate::specs::Lent::places_of, crate::specs::Lent::least))]
 pub fn places(len: usize, need: usize, count: usize) -> usize
     ensures { result ≡ places_of len need count }
 {
@@ -170,6 +175,7 @@ pub fn fill(list: &mut [Finding], need: usize, found: Findings) -> usize
 }
 
 // How many of a list of `len` findings are read: none where they are more than fifteen.
+#[tactic(auto, unfolding(crate::specs::Lent::load_count))]
 pub fn kept(len: usize) -> usize
     ensures { result ≡ load_count len }
 {
