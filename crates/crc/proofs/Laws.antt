@@ -1,11 +1,9 @@
 -- The laws of the CRC. Assumes nothing.
-use Prim.Native.Nat.{ℕ, zero, suc, ◌+◌, ◌*◌, ◌/◌, ◌%◌, ◌<◌, ◌≤◌}
-use mathlib.Core.Path.{◌≡◌, refl, sym, ap, ◌∙◌}
+use Prim.Native.Nat.{ℕ, zero, suc, ◌*◌, ◌/◌, ◌%◌}
+use mathlib.Core.Path.{◌≡◌, refl, ap, ◌∙◌}
 use mathlib.Core.List.{List, [], ◌∷◌, ◌++◌}
 use native.Mathlib.Omega.{arith}
-use native.Mathlib.Numerals.{add-one}
-use lib.ListN.{length, get_or, drop, drop_of_length-le}
-use lib.Seq.{drop-cons}
+use lib.ListN.{length}
 use lib.Bits.{bit_xor}
 use Rattle.crc.specs.Crc.{shifted, shifts, byte_in, crc_from, crc_of, xor_of}
 use Rattle.crc.proofs.Xor.{medial}
@@ -45,31 +43,3 @@ from-join r (a ∷ x) y = from-join (byte_in r a) x y
 
 pub crc-join : (x y : List ℕ) → crc_of (x ++ y) ≡ crc_from (crc_of x) y
 crc-join x y = from-join 0 x y
-
--- ---- a turn of a loop over bytes, by one and by eight, and its end
-
-turn : (r : ℕ) (s : List ℕ) (i j : ℕ) → i + 1 ≡ j → i < length s → crc_from (byte_in r (get_or s i 0)) (drop j s) ≡ crc_from r (drop i s)
-turn r s i j e h = rw (← e) (sym (rw (add-one, drop-cons s i 0)))
-
-module _ (r : ℕ) (s : List ℕ) (i : ℕ) where
-  pub one_more : i < length s → {n : ℕ} → n ≡ byte_in r (get_or s i 0) → crc_from n (drop (i + 1) s) ≡ crc_from r (drop i s)
-  one_more h e = ap (λ (x : ℕ). crc_from x (drop (i + 1) s)) e ∙ turn r s i (i + 1) refl h
-
-  abbrev pub eightFrom : List ℕ
-  eightFrom =
-      get_or s i 0 ∷ get_or s (i + 1) 0 ∷ get_or s (i + 2) 0 ∷ get_or s (i + 3) 0 ∷ get_or s (i + 4) 0 ∷ get_or s (i + 5) 0 ∷ get_or s (i + 6) 0 ∷ get_or s (i + 7) 0 ∷ []
-
-  pub eight-more : i + 8 ≤ length s → {n : ℕ} → n ≡ crc_from r eightFrom → crc_from n (drop (i + 8) s) ≡ crc_from r (drop i s)
-  eight-more h e =
-      ap (λ (x : ℕ). crc_from x (drop (i + 8) s)) e
-      ∙ turn _ s (i + 7) (i + 8) (omega arith) (omega arith)
-      ∙ turn _ s (i + 6) (i + 7) (omega arith) (omega arith)
-      ∙ turn _ s (i + 5) (i + 6) (omega arith) (omega arith)
-      ∙ turn _ s (i + 4) (i + 5) (omega arith) (omega arith)
-      ∙ turn _ s (i + 3) (i + 4) (omega arith) (omega arith)
-      ∙ turn _ s (i + 2) (i + 3) (omega arith) (omega arith)
-      ∙ turn _ s (i + 1) (i + 2) (omega arith) (omega arith)
-      ∙ turn r s i (i + 1) refl (omega arith)
-
-  pub all-passed : length s ≤ i → crc_from r (drop i s) ≡ r
-  all-passed h = ap (crc_from r) (drop_of_length-le s h)

@@ -6,7 +6,7 @@ use mathlib.Core.List.{List}
 use lib.Dec.{eqb}
 use lib.ListN.{length, get_or, take}
 use native.Mathlib.Omega.{arith}
-use Rattle.reading.specs.View.{View, view}
+use Rattle.reading.specs.View.{View}
 use Rattle.reading.specs.Said.{Told, no, gives, refuses, refused}
 use Rattle.reading.specs.Ranges.{missing_at}
 use Rattle.reading.specs.declared.Missing.TheVariants.{At}

@@ -1,4 +1,6 @@
 // CRC-16 of JESD400-5, the check of the base block by it, and the sound one of two reads.
+#![tactic(auto)]
+
 ghost use Rattle.std.specs.Prelude.{◌≡◌, [], ◌∷◌};
 ghost use Rattle.crc.specs.Crc.{byte_in, crc_from, crc_of};
 ghost use Rattle.crc.specs.Base.{base_crc_of, crc_said, sound_in, block_of, sound_read_of, sound_said};
@@ -18,14 +20,14 @@ const CRC_LENGTHS: [u16; 1] = [512];
 const CRC_BYTES: usize = CRC_STARTS[0] as usize + CRC_LENGTHS[0] as usize;
 
 // Whether the CRC of a base block matches the one that is stored behind it.
-#[derive(Drop)]
+#[derive(Clone, Copy)]
 pub enum CrcAnswer {
     Matches(bool),
     Refused(Refusal),
 }
 
 // Which of two reads is the sound one.
-#[derive(Drop)]
+#[derive(Clone, Copy)]
 pub enum SoundRead {
     First,
     Second,

@@ -1,6 +1,6 @@
 -- What the two halves answer makes the answer of the whole, where no byte is missing and the type is DDR4's. Assumes nothing.
 use Prim.Native.Nat.{ℕ, ◌≤◌}
-use mathlib.Core.Path.{◌≡◌, refl, ap, ◌∙◌}
+use mathlib.Core.Path.{◌≡◌, refl, ◌∙◌}
 use mathlib.Core.List.{List}
 use mathlib.Core.Bool.{true, false, not}
 use lib.Dec.{eqb}

@@ -1,4 +1,3 @@
-pub mod Signed
 pub mod Checks
 pub mod Halves
 pub mod Reach

@@ -8,9 +8,9 @@ use native.Mathlib.Omega.{arith}
 use borrow.Author.Tests.{eqb-true, ltb-false}
 use lib.IntN.{ℤ, pos, negsuc}
 use lib.Signed.{lt_z}
-use lib.Dec.{T, eqb, ltb}
+use lib.Dec.{T, eqb}
 use Rattle.reading.specs.View.{View}
-use Rattle.reading.specs.Said.{Told, no, Said, gives, refuses, refused}
+use Rattle.reading.specs.Said.{Told, no, gives, refuses, refused}
 use Rattle.reading.specs.Ranges.{missing_at, whole}
 use Rattle.reading.specs.declared.Missing.{Missing}
 use Rattle.reading.specs.declared.Missing.TheVariants.{Nothing, At}

@@ -1,5 +1,5 @@
 -- The two halves of the record, each with its own checks. Only private functions promise in these terms. Assumes nothing.
-use Rattle.std.specs.Prelude.{ℕ, ◌*◌, ◌^◌}
+use Rattle.std.specs.Prelude.{◌*◌, ◌^◌}
 use Rattle.reading.specs.View.{View}
 use Rattle.reading.specs.Said.{Said, gives, refuses, told}
 use Rattle.ddr4.specs.Times.{whole_of, tck_at, taa_at, trcd_at, trp_at, tras_at, trc_at}

@@ -1,4 +1,6 @@
 // DDR4 images: sizes, and times that are units of 125 ps with a signed fine byte.
+#![tactic(auto)]
+
 ghost use Rattle.std.specs.Prelude.{◌≡◌, ◌+◌, ◌*◌, ◌%◌, ◌^◌, ◌<◌, ◌≤◌};
 ghost use Rattle.reading.specs.View.{view};
 ghost use Rattle.reading.specs.Said.{told, no};
@@ -30,7 +32,7 @@ const DDR4_BYTES: usize = DDR4_STARTS[6] as usize + DDR4_LENGTHS[6] as usize;
 const DEVICE_DDR4: u8 = 0x0C;
 
 // The decoded image; times in picoseconds.
-#[derive(Drop)]
+#[derive(Clone, Copy)]
 pub struct Ddr4 {
     pub megabits: u32,
     pub io_width_bits: u16,
@@ -43,27 +45,27 @@ pub struct Ddr4 {
     pub trc: u32,
 }
 
-#[derive(Drop)]
+#[derive(Clone, Copy)]
 pub enum Ddr4Answer {
     Decoded(Ddr4),
     Refused(Refusal),
 }
 
 // Its two halves.
-#[derive(Drop)]
+#[derive(Clone, Copy)]
 struct Sizes {
     megabits: u32,
     io_width_bits: u16,
     bus_width_bits: u16,
 }
 
-#[derive(Drop)]
+#[derive(Clone, Copy)]
 enum SizesAnswer {
     Decoded(Sizes),
     Refused(Refusal),
 }
 
-#[derive(Drop)]
+#[derive(Clone, Copy)]
 struct Times {
     tck: u32,
     taa: u32,
@@ -73,7 +75,7 @@ struct Times {
     trc: u32,
 }
 
-#[derive(Drop)]
+#[derive(Clone, Copy)]
 enum TimesAnswer {
     Decoded(Times),
     Refused(Refusal),
@@ -112,6 +114,7 @@ pub fn decode_ddr4(image: &[u8]) -> Ddr4Answer
 }
 
 // The sizes, or the first code that stands for nothing.
+#[tactic(auto, unfolding(crate::specs::Parts::sizes_at))]
 fn decode_sizes(image: &[u8]) -> SizesAnswer
     ensures { sizes_said result ≡ sizes_at (view image.now) }
 {
@@ -139,6 +142,7 @@ fn decode_sizes(image: &[u8]) -> SizesAnswer
 }
 
 // The times, or the first that is below zero.
+#[tactic(auto, unfolding(crate::specs::Parts::times_at))]
 fn decode_times(image: &[u8]) -> TimesAnswer
     ensures { times_said result ≡ times_at (view image.now) }
 {

@@ -1,4 +1,6 @@
 // Manufacturing information block: bytes 512 to 554 of an image.
+#![tactic(auto)]
+
 ghost use Rattle.std.specs.Prelude.{◌≡◌, length};
 ghost use Rattle.manufacturing.specs.Block.{maker_of, bcd_of, date_of, serial_of, digits, good_date, date_refused, manufacturing_of, manufacturing_said};
 ghost use Rattle.manufacturing.specs.Part.{trimmed, part_of, part_kept_of};
@@ -36,25 +38,25 @@ const MANUFACTURING_BYTES: usize = MANUFACTURING_STARTS[0] as usize
 const SPACE: u8 = 0x20;
 
 // A JEP-106 manufacturer: its bank, 1 where no continuation code precedes, and its code.
-#[derive(Drop)]
+#[derive(Clone, Copy)]
 pub struct ManufacturerId {
     pub bank: u8,
     pub code: u8,
 }
 
 // A calendar year and a week of it.
-#[derive(Drop)]
+#[derive(Clone, Copy)]
 pub struct ManufacturingDate {
     pub year: u16,
     pub week: u8,
 }
 
 // Four bytes, the first the highest.
-#[derive(Drop)]
+#[derive(Clone, Copy)]
 pub struct SerialNumber(pub u32);
 
 // The decoded block. The part number is not in it: a part of the image is handed back by a call of its own.
-#[derive(Drop)]
+#[derive(Clone, Copy)]
 pub struct Manufacturing {
     pub module_manufacturer: ManufacturerId,
     pub manufacturing_location: u8,
@@ -65,21 +67,21 @@ pub struct Manufacturing {
     pub dram_stepping: u8,
 }
 
-#[derive(Drop)]
+#[derive(Clone, Copy)]
 pub enum ManufacturingAnswer {
     Decoded(Manufacturing),
     Refused(Refusal),
 }
 
 // Whether a date that is none is decoded as it is, or refused.
-#[derive(Drop)]
+#[derive(Clone, Copy)]
 pub enum DateMode {
     AsIs,
     Strict,
 }
 
 // A part number by value: its thirty bytes, and how many of them are left without the spaces that end them.
-#[derive(Drop)]
+#[derive(Clone, Copy)]
 pub struct PartNumber {
     pub bytes: [u8; PART_NUMBER_LEN],
     pub len: usize,

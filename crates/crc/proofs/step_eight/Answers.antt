@@ -1,20 +1,16 @@
 -- `crc::step_eight` meets its contract: the register and the eight bytes are one number, and all of it moves up at once. Assumes nothing.
-use Prim.Native.Nat.{ℕ, ◌+◌, ◌*◌, ◌%◌, ◌^◌, ◌<◌}
-use mathlib.Core.Path.{◌≡◌, sym, ◌∙◌}
-use native.Mathlib.Nat.{mul-one}
-use native.Mathlib.Omega.{arith}
-use lib.Bits.{bit_xor}
-use lib.Pow.{shl_exact}
-use borrow.Author.Rules.{rules}
+use Rattle.std.proofs.Common.{◌≡◌, ℕ, ◌+◌, ◌*◌, ◌%◌, ◌^◌, ◌<◌, sym, ◌∙◌, arith}
+use Rattle.std.proofs.Math.Nat.{mul-one}
+use Rattle.std.proofs.Math.Pow.{shl_exact}
+use Rattle.std.specs.Int.Bits.{bit_xor}
 use Rattle.crc.proofs.Fold.{folded, line1, line2, line3, line4, eight, word, eight-once}
-use Rattle.crc.proofs.step_eight.Statement.{statement}
-use Rattle.crc.proofs.step_eight.Tie as tie
+use Rattle.crc.proofs.step_eight.Goals as goal
 
 -- a byte keeps its bits
 kept : (b k : ℕ) → b < 256 → 8 + k < 65 → b * 2 ^ k % 2 ^ 64 ≡ b * 2 ^ k
 kept b k h l = shl_exact 8 k 64 h (omega arith)
 
-returns : tie.Need-returns
+pub returns : goal.returns
 unfolding eight line1 line2 line3 line4 folded
 returns c =
     let a = c.args in
@@ -29,6 +25,3 @@ returns c =
     ∙ sym
     (eight-once r a.b0 a.b1 a.b2 a.b3 a.b4 a.b5 a.b6 a.b7 (omega arith) (omega arith) (omega arith) (omega arith) (omega arith)
     (omega arith) (omega arith) (omega arith) (omega arith))
-
-pub step-eight-spec : {M : Type 1} → statement M
-step-eight-spec = tie.close (tie.spec (λ c. search rules) returns)
