@@ -1,7 +1,7 @@
 -- A code field taken with a mask is a remainder by a power of two, and bytes joined by shifts are a sum: one law for every width.
 -- Assumes nothing.
 use Prim.Native.Nat.{ℕ, zero, suc, ◌+◌, ◌-◌, ◌*◌, ◌/◌, ◌^◌, ◌%◌, ◌<◌}
-use mathlib.Core.Path.{◌≡◌, refl, sym, ap, ◌∙◌}
+use mathlib.Core.Path.{◌≡◌, sym, ap, ◌∙◌}
 use mathlib.Core.Bool.{not}
 use native.Mathlib.Nat.{mod-lt, mod-eq_of_lt, add_comm}
 use native.Mathlib.Omega.{arith}
@@ -23,15 +23,6 @@ flag (suc (suc x)) p h q = absurd (omega arith)
 -- bit k alone, tested against 0, is set where the shifted number is odd
 pub flagged : (k n : ℕ) → not (eqb (bit_and n (2 ^ (1 + k) - 2 ^ k)) 0) ≡ eqb (n / 2 ^ k % 2) 1
 flagged k n = rw (and_high n 1 k) (flag (n / 2 ^ k % 2) (2 ^ k) (mod-lt (n / 2 ^ k) (omega arith)) (pow_pos k))
-
-odd : (x : ℕ) → x < 2 → not (eqb x 0) ≡ eqb x 1
-odd zero h = refl
-odd (suc zero) h = refl
-odd (suc (suc x)) h = absurd (omega arith)
-
--- bit 0 alone, tested against 0
-pub low_bit : (n : ℕ) → not (eqb (bit_and n 1) 0) ≡ eqb (n % 2) 1
-low_bit n = rw (and_mask n 1) (odd (n % 2) (mod-lt n (omega arith)))
 
 -- a byte shifted above a number that has only the bits below it, and joined by `|`, is a sum
 pub joined : (k w m b : ℕ) → m < 2 ^ k → b * 2 ^ k < 2 ^ w → bit_or m (b * 2 ^ k % 2 ^ w) ≡ m + b * 2 ^ k

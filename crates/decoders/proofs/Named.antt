@@ -2,7 +2,7 @@
 use Prim.Native.Nat.{ℕ, suc, ◌<◌, ◌≤◌}
 use mathlib.Core.Path.{◌≡◌, refl, ap, sym}
 use mathlib.Core.Bool.{true, false, true≢false}
-use mathlib.Core.List.{List, []}
+use mathlib.Core.List.{List}
 use native.Mathlib.Omega.{arith}
 use lib.Dec.{ltb}
 use lib.ListN.{length, get_or}
@@ -10,7 +10,6 @@ use borrow.Author.Tests.{lt-ltb, le-ltb}
 use Rattle.reading.specs.View.{View, view}
 use Rattle.reading.specs.Said.{refused}
 use Rattle.reading.specs.Ranges.{in_range, reads, missing_at}
-use Rattle.reading.specs.declared.Missing.{Missing}
 use Rattle.reading.specs.declared.Missing.TheVariants.{At}
 use Rattle.reading.proofs.Smallest.{first-or, in-range, missing-smallest, smallest-once}
 use Rattle.decoders.specs.Identity.{identity_ranges, identity_of}

@@ -4,8 +4,7 @@ use mathlib.Core.List.{List}
 use Prim.Native.Nat.{ℕ}
 use Rattle.reading.specs.View.{view}
 use Rattle.reading.specs.Ranges.{missing_at, reach_of}
-use Rattle.reading.specs.Said.{Said, gives, refuses, told, onward}
-use Rattle.reading.specs.declared.Refusal.{Refusal}
+use Rattle.reading.specs.Said.{Said, gives, refuses, onward}
 use Rattle.reading.proofs.Reach.{by-missing}
 use Rattle.reading.proofs.Clip.{within}
 use Rattle.decoders.specs.Answers.{reach_said}
@@ -17,7 +16,7 @@ use Rattle.decoders.proofs.Fields.{said}
 use Rattle.decoders.proofs.Reach.{times-reach}
 
 module _ (s : List ℕ) where
-  in_bytes : timings_of s ≡ onward refuses (timing_reach_of s) (λ _. gives (times_at (view (timing_bytes_of s))))
+  pub in_bytes : timings_of s ≡ onward refuses (timing_reach_of s) (λ _. gives (times_at (view (timing_bytes_of s))))
   unfolding timings_of timing_reach_of timing_bytes_of
   in_bytes = by-missing (missing_at timing_ranges (view s))
       (λ e. rw e (ap gives (sym (within times_at (reach_of timing_ranges) times-reach s))))
@@ -30,6 +29,3 @@ module _ (s : List ℕ) where
         in_bytes
         ∙ ap (λ (x : Said (Unit {0})). onward refuses x (λ _. gives (times_at (view (timing_bytes_of s))))) (said reach_said p q)
         ∙ ap gives (sym (f ∙ ap (λ (l : List ℕ). times_at (view l)) e))
-
-    pub timings-refused : {why : Refusal} → r ≡ reach.Refused why → timings_of s ≡ refuses (told why)
-    timings-refused q = in_bytes ∙ ap (λ (x : Said (Unit {0})). onward refuses x (λ _. gives (times_at (view (timing_bytes_of s))))) (said reach_said p q)

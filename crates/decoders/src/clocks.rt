@@ -7,7 +7,7 @@ use crate::timing::{Picoseconds, Timings};
 use reading::Refusal;
 
 // Counts of clock cycles, under the names of the times.
-#[derive(Drop)]
+#[derive(Clone, Copy)]
 pub struct ClockTable {
     pub taa: u32,
     pub trcd: u32,
@@ -20,13 +20,14 @@ pub struct ClockTable {
     pub trfcsb: u32,
 }
 
-#[derive(Drop)]
+#[derive(Clone, Copy)]
 pub enum ClockTableAnswer {
     Table(ClockTable),
     Refused(Refusal),
 }
 
 // For each of the nine times its count of clock cycles.
+#[tactic(auto, unfolding(crate::specs::Clocks::clock_table_of))]
 pub fn clock_table(timings: Timings) -> ClockTableAnswer
     ensures { clock_table_said result ≡ clock_table_of «timings» }
 {
@@ -48,6 +49,7 @@ pub fn clock_table(timings: Timings) -> ClockTableAnswer
 }
 
 // A time in clocks, as JEDEC rounds it: two divisions, here as one. The products need more than 32 bits, the count does not.
+#[tactic(auto, using(crate::proofs::Least::at_once))]
 fn cycles(time: Picoseconds, tck: u32) -> u32
     requires { 0 < tck }
     ensures { result ≡ clocks_of tck time.0 }

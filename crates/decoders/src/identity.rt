@@ -37,14 +37,14 @@ const IDENTITY_LENGTHS: [u16; 2] = [8, 2];
 const IDENTITY_BYTES: usize = IDENTITY_STARTS[1] as usize + IDENTITY_LENGTHS[1] as usize;
 
 // SPD revision, from byte 1: two plain nibbles.
-#[derive(Drop)]
+#[derive(Clone, Copy)]
 pub struct SpdRevision {
     pub major: u8,
     pub minor: u8,
 }
 
 // DRAM device type, from byte 2. An image is decoded only where it is Ddr5.
-#[derive(Drop)]
+#[derive(Clone, Copy)]
 pub enum DeviceType {
     Ddr3,
     Ddr4,
@@ -67,7 +67,7 @@ impl DeviceType {
 }
 
 // Base module type, from the low nibble of byte 3.
-#[derive(Drop)]
+#[derive(Clone, Copy)]
 pub enum ModuleType {
     Rdimm,
     Udimm,
@@ -102,7 +102,7 @@ impl ModuleType {
 }
 
 // SDRAM density per die, from bits 4-0 of byte 4.
-#[derive(Drop)]
+#[derive(Clone, Copy)]
 pub enum DensityPerDie {
     Gb4,
     Gb8,
@@ -133,7 +133,7 @@ impl DensityPerDie {
 }
 
 // SDRAM I/O width, from bits 7-5 of byte 6.
-#[derive(Drop)]
+#[derive(Clone, Copy)]
 pub enum IoWidth {
     X4,
     X8,
@@ -156,7 +156,7 @@ impl IoWidth {
 }
 
 // Bank groups per die, from bits 7-5 of byte 7.
-#[derive(Drop)]
+#[derive(Clone, Copy)]
 pub enum BankGroups {
     One,
     Two,
@@ -179,7 +179,7 @@ impl BankGroups {
 }
 
 // Banks within each bank group, from bits 2-0 of byte 7.
-#[derive(Drop)]
+#[derive(Clone, Copy)]
 pub enum BanksPerBankGroup {
     One,
     Two,
@@ -200,7 +200,7 @@ impl BanksPerBankGroup {
 }
 
 // SDRAM package construction, from bits 7-5 of byte 4.
-#[derive(Drop)]
+#[derive(Clone, Copy)]
 pub enum PackageType {
     // One die.
     Monolithic,
@@ -224,7 +224,7 @@ impl PackageType {
 }
 
 // The decoded identity and base SDRAM configuration of an image.
-#[derive(Drop)]
+#[derive(Clone, Copy)]
 pub struct IdentityAndBase {
     pub spd_bytes_total: u16,
     pub spd_revision: SpdRevision,
@@ -245,14 +245,14 @@ pub struct IdentityAndBase {
     pub primary_bus_width_bits: u16,
 }
 
-#[derive(Drop)]
+#[derive(Clone, Copy)]
 pub enum IdentityAnswer {
     Decoded(IdentityAndBase),
     Refused(Refusal),
 }
 
 // The ten bytes that it is read from, under the names of their offsets.
-#[derive(Drop)]
+#[derive(Clone, Copy)]
 pub struct IdentityBytes {
     pub spd_size: u8,
     pub spd_revision: u8,
@@ -267,7 +267,7 @@ pub struct IdentityBytes {
 }
 
 // Its three parts: of bytes 0 to 3, 4 to 7, and 234 and 235.
-#[derive(Drop)]
+#[derive(Clone, Copy)]
 pub struct Base {
     pub spd_bytes_total: u16,
     pub spd_revision: SpdRevision,
@@ -276,7 +276,7 @@ pub struct Base {
     pub hybrid: bool,
 }
 
-#[derive(Drop)]
+#[derive(Clone, Copy)]
 pub struct Sdram {
     pub density_per_die: DensityPerDie,
     pub package_type: PackageType,
@@ -288,7 +288,7 @@ pub struct Sdram {
     pub banks_per_bank_group: BanksPerBankGroup,
 }
 
-#[derive(Drop)]
+#[derive(Clone, Copy)]
 pub struct Organization {
     pub package_ranks_per_channel: u8,
     pub rank_mix_asymmetric: bool,
@@ -297,93 +297,94 @@ pub struct Organization {
 }
 
 // Refused comes first in these answers, which has the compiler expect the other case.
-#[derive(Drop)]
+#[derive(Clone, Copy)]
 pub enum IdentityBytesAnswer {
     Refused(Refusal),
     Bytes(IdentityBytes),
 }
 
-#[derive(Drop)]
+#[derive(Clone, Copy)]
 pub enum BaseAnswer {
     Refused(Refusal),
     Base(Base),
 }
 
-#[derive(Drop)]
+#[derive(Clone, Copy)]
 pub enum SdramAnswer {
     Refused(Refusal),
     Sdram(Sdram),
 }
 
-#[derive(Drop)]
+#[derive(Clone, Copy)]
 pub enum OrganizationAnswer {
     Refused(Refusal),
     Organization(Organization),
 }
 
 // A package and the dies in it.
-#[derive(Drop)]
+#[derive(Clone, Copy)]
 struct Package {
     package_type: PackageType,
     die_count: u8,
 }
 
 // What a field's table answers: the value, or a refusal.
-#[derive(Drop)]
+#[derive(Clone, Copy)]
 enum NumberAnswer {
     Number(u16),
     Refused(Refusal),
 }
 
-#[derive(Drop)]
+#[derive(Clone, Copy)]
 enum CountAnswer {
     Count(u8),
     Refused(Refusal),
 }
 
-#[derive(Drop)]
+#[derive(Clone, Copy)]
 enum DeviceAnswer {
     Device(DeviceType),
     Refused(Refusal),
 }
 
-#[derive(Drop)]
+#[derive(Clone, Copy)]
 enum ModuleAnswer {
     Module(ModuleType),
     Refused(Refusal),
 }
 
-#[derive(Drop)]
+#[derive(Clone, Copy)]
 enum DensityAnswer {
     Density(DensityPerDie),
     Refused(Refusal),
 }
 
-#[derive(Drop)]
+#[derive(Clone, Copy)]
 enum PackageAnswer {
     Package(Package),
     Refused(Refusal),
 }
 
-#[derive(Drop)]
+#[derive(Clone, Copy)]
 enum IoWidthAnswer {
     Width(IoWidth),
     Refused(Refusal),
 }
 
-#[derive(Drop)]
+#[derive(Clone, Copy)]
 enum BankGroupsAnswer {
     Groups(BankGroups),
     Refused(Refusal),
 }
 
-#[derive(Drop)]
+#[derive(Clone, Copy)]
 enum BanksAnswer {
     Banks(BanksPerBankGroup),
     Refused(Refusal),
 }
 
 // The identity and base configuration of an image. The length is tested first, then the codes in document 01's order, part by part.
+#[tactic(auto, using(crate::proofs::Parts::in_parts))]
 pub fn decode_identity_and_base(image: &[u8]) -> IdentityAnswer
     ensures { identity_said result ≡ identity_of image.now }
 {
@@ -433,6 +434,7 @@ pub fn decode_identity_and_base(image: &[u8]) -> IdentityAnswer
 }
 
 // The one test of the length, and the bytes.
+#[tactic(auto, unfolding(crate::specs::Identity::identity_bytes_of))]
 pub fn identity_bytes(image: &[u8]) -> IdentityBytesAnswer
     ensures { identity_bytes_said result ≡ identity_bytes_of image.now }
 {
@@ -458,6 +460,7 @@ pub fn identity_bytes(image: &[u8]) -> IdentityBytesAnswer
 }
 
 // Bytes 0 to 3. A part is small enough to be compiled into each of its callers, which the whole is not.
+#[tactic(auto, unfolding(crate::specs::Identity::base_of))]
 pub fn decode_base(bytes: IdentityBytes) -> BaseAnswer
     ensures { base_said result ≡ base_of bytes }
 {
@@ -483,6 +486,7 @@ pub fn decode_base(bytes: IdentityBytes) -> BaseAnswer
 }
 
 // Bytes 4 to 7.
+#[tactic(auto, unfolding(crate::specs::Identity::sdram_of))]
 pub fn decode_sdram(bytes: IdentityBytes) -> SdramAnswer
     ensures { sdram_said result ≡ sdram_of bytes }
 {
@@ -520,6 +524,7 @@ pub fn decode_sdram(bytes: IdentityBytes) -> SdramAnswer
 }
 
 // Bytes 234 and 235.
+#[tactic(auto, unfolding(crate::specs::Identity::organization_of))]
 pub fn decode_organization(bytes: IdentityBytes) -> OrganizationAnswer
     ensures { organization_said result ≡ organization_of bytes }
 {
@@ -540,6 +545,7 @@ pub fn decode_organization(bytes: IdentityBytes) -> OrganizationAnswer
 }
 
 // Byte 0, bits 6-4: total size of the SPD device in bytes.
+#[tactic(auto, unfolding(crate::specs::Codes::size_of))]
 fn decode_spd_bytes_total(byte0: u8) -> NumberAnswer
     ensures { number_said result ≡ size_of (byte0 / 16 % 8) }
 {
@@ -563,6 +569,7 @@ fn decode_spd_revision(byte1: u8) -> SpdRevision
 }
 
 // Byte 2, the whole of it: the device type.
+#[tactic(auto, unfolding(crate::specs::Codes::device_of))]
 fn decode_device_type(byte2: u8) -> DeviceAnswer
     ensures { device_said result ≡ device_of byte2 }
 {
@@ -573,6 +580,7 @@ fn decode_device_type(byte2: u8) -> DeviceAnswer
 }
 
 // Byte 3, bits 3-0: the base module type.
+#[tactic(auto, unfolding(crate::specs::Codes::module_of))]
 fn decode_module_type(byte3: u8) -> ModuleAnswer
     ensures { module_said result ≡ module_of (byte3 % 16) }
 {
@@ -599,6 +607,7 @@ fn decode_hybrid(byte3: u8) -> bool
 }
 
 // Byte 4, bits 4-0: density per die.
+#[tactic(auto, unfolding(crate::specs::Codes::density_of))]
 fn decode_density_per_die(byte4: u8) -> DensityAnswer
     ensures { density_said result ≡ density_of (byte4 % 32) }
 {
@@ -616,6 +625,7 @@ fn decode_density_per_die(byte4: u8) -> DensityAnswer
 }
 
 // Byte 4, bits 7-5: the package and its dies.
+#[tactic(auto, unfolding(crate::specs::Codes::package_of))]
 fn decode_package(byte4: u8) -> PackageAnswer
     ensures { package_said result ≡ package_of (byte4 / 32 % 8) }
 {
@@ -663,6 +673,7 @@ fn decode_column_address_bits(byte5: u8) -> u8
 }
 
 // Byte 6, bits 7-5: the I/O width.
+#[tactic(auto, unfolding(crate::specs::Codes::io_width_of))]
 fn decode_io_width(byte6: u8) -> IoWidthAnswer
     ensures { io_width_said result ≡ io_width_of (byte6 / 32 % 8) }
 {
@@ -676,6 +687,7 @@ fn decode_io_width(byte6: u8) -> IoWidthAnswer
 }
 
 // Byte 7, bits 7-5: bank groups.
+#[tactic(auto, unfolding(crate::specs::Codes::bank_groups_of))]
 fn decode_bank_groups(byte7: u8) -> BankGroupsAnswer
     ensures { bank_groups_said result ≡ bank_groups_of (byte7 / 32 % 8) }
 {
@@ -689,6 +701,7 @@ fn decode_bank_groups(byte7: u8) -> BankGroupsAnswer
 }
 
 // Byte 7, bits 2-0: banks per bank group.
+#[tactic(auto, unfolding(crate::specs::Codes::banks_of))]
 fn decode_banks_per_bank_group(byte7: u8) -> BanksAnswer
     ensures { banks_said result ≡ banks_of (byte7 % 8) }
 {
@@ -715,6 +728,7 @@ fn decode_rank_mix(byte234: u8) -> bool
 }
 
 // Byte 235, bits 2-0: primary bus width per channel in bits.
+#[tactic(auto, unfolding(crate::specs::Codes::bus_width_of))]
 fn decode_primary_bus_width(byte235: u8) -> NumberAnswer
     ensures { number_said result ≡ bus_width_of (byte235 % 8) }
 {
@@ -728,6 +742,7 @@ fn decode_primary_bus_width(byte235: u8) -> NumberAnswer
 }
 
 // Byte 235, bits 7-5: channels per DIMM.
+#[tactic(auto, unfolding(crate::specs::Codes::channels_of))]
 fn decode_channels_per_dimm(byte235: u8) -> CountAnswer
     ensures { count_said result ≡ channels_of (byte235 / 32 % 8) }
 {

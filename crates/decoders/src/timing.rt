@@ -56,7 +56,7 @@ const TIMING_LENGTHS: [u16; 3] = [9, 18, 24];
 const TIMING_BYTES: usize = TIMING_STARTS[2] as usize + TIMING_LENGTHS[2] as usize;
 
 // A duration in picoseconds: every absolute time is kept so.
-#[derive(Drop)]
+#[derive(Clone, Copy)]
 pub struct Picoseconds(pub u32);
 
 impl Picoseconds {
@@ -69,7 +69,7 @@ impl Picoseconds {
 }
 
 // A count of clock cycles (nCK).
-#[derive(Drop)]
+#[derive(Clone, Copy)]
 pub struct ClockCycles(pub u8);
 
 impl ClockCycles {
@@ -82,18 +82,18 @@ impl ClockCycles {
 }
 
 // A timing stored as a time and as a count of clocks; the larger of the two binds.
-#[derive(Drop)]
+#[derive(Clone, Copy)]
 pub struct TimingPair {
     pub time: Picoseconds,
     pub clocks: ClockCycles,
 }
 
 // The supported CAS latencies as a mask: bit k stands for CL 20 + 2k.
-#[derive(Drop)]
+#[derive(Clone, Copy)]
 pub struct CasLatencies(pub u64);
 
 // The ascending list was written, so many places of it; or it was not.
-#[derive(Drop)]
+#[derive(Clone, Copy)]
 pub enum CasListAnswer {
     Listed(usize),
     Refused(Refusal),
@@ -136,6 +136,7 @@ impl CasLatencies {
     }
 
     // The supported CAS latencies in ascending order, into a list of at least 40 places; places past their count stay.
+    #[tactic(auto, unfolding(crate::specs::Cas::cas_list_of, crate::specs::Cas::cas_list_after))]
     pub fn list(self, out: &mut [u16]) -> CasListAnswer
         ensures answer { cas_list_said result ≡ cas_list_of self out.old }
         ensures later { out.new ≡ cas_list_after self out.old }
@@ -156,7 +157,7 @@ impl CasLatencies {
 }
 
 // The decoded base timings of an image.
-#[derive(Drop)]
+#[derive(Clone, Copy)]
 pub struct Timings {
     // Minimum and maximum average clock cycle time; the minimum sets the data rate.
     pub tckavg_min: Picoseconds,
@@ -194,27 +195,28 @@ impl Timings {
     }
 }
 
-#[derive(Drop)]
+#[derive(Clone, Copy)]
 pub enum TimingsAnswer {
     Decoded(Timings),
     Refused(Refusal),
 }
 
 // Whether an image has the bytes that the timings are read from.
-#[derive(Drop)]
+#[derive(Clone, Copy)]
 pub enum TimingReach {
     Refused(Refusal),
     Whole,
 }
 
 // Those bytes, from the image's first on; zeros where it does not have them.
-#[derive(Drop)]
+#[derive(Clone, Copy)]
 pub struct TimingBytes {
     pub reach: TimingReach,
     pub bytes: [u8; TIMING_BYTES],
 }
 
 // The base timings of an image. No value is reserved, so a short image is the only refusal.
+#[tactic(auto, using(crate::proofs::Read::in_bytes))]
 pub fn decode_timings(image: &[u8]) -> TimingsAnswer
     ensures { timings_said result ≡ timings_of image.now }
 {
@@ -228,6 +230,7 @@ pub fn decode_timings(image: &[u8]) -> TimingsAnswer
 
 // The one test of the length. The bytes go by value so that `timings_in` has no test and is compiled into each of its callers, which the
 // whole decoder would not be; no copy of them is left then.
+#[tactic(auto, unfolding(crate::specs::Timing::timing_reach_of, crate::specs::Timing::timing_bytes_of))]
 pub fn timing_bytes(image: &[u8]) -> TimingBytes
     ensures reach { reach_said result.reach ≡ timing_reach_of image.now }
     ensures bytes { result.bytes ≡ timing_bytes_of image.now }
@@ -301,6 +304,7 @@ fn ns_units(raw: u16) -> Picoseconds
 }
 
 // A 16-bit value at an offset, low byte first.
+#[tactic(auto, unfolding(crate::specs::Timing::le16_at))]
 fn read_le_u16(image: &[u8], offset: usize) -> u16
     requires { offset < 2048 }
     ensures { result ≡ le16_at (view image.now) offset }
@@ -311,6 +315,7 @@ fn read_le_u16(image: &[u8], offset: usize) -> u16
 }
 
 // A time and the clock byte after it.
+#[tactic(auto, unfolding(crate::specs::Timing::pair_at))]
 fn read_pair(image: &[u8], offset: usize) -> TimingPair
     requires { offset < 2048 }
     ensures { result ≡ pair_at (view image.now) offset }
@@ -322,6 +327,7 @@ fn read_pair(image: &[u8], offset: usize) -> TimingPair
 }
 
 // The five bytes of the CAS latencies as a set.
+#[tactic(auto, unfolding(crate::specs::Timing::cas_at))]
 fn decode_cas_latencies(image: &[u8]) -> CasLatencies
     ensures { result ≡ cas_at (view image.now) 24 }
 {
