@@ -4,13 +4,11 @@ use mathlib.Core.Path.{◌≡◌, refl}
 use mathlib.Core.List.{List, [], ◌∷◌}
 use native.Mathlib.Omega.{arith}
 use lib.ListN.{length}
-use Rattle.reading.specs.View.{View}
 use Rattle.reading.specs.Said.{Told, Said, gives, refuses, onward}
 use Rattle.findings.proofs.Laws.{length-cat}
-use Rattle.findings.specs.declared.Finding.{Finding}
-use Rattle.ddr4.specs.Module.{ddr4_at, ddr4_of}
+use Rattle.ddr4.specs.Module.{ddr4_of}
 use Rattle.ddr4.specs.declared.Ddr4.{Ddr4}
-use Rattle.ddr4rules.specs.Lint.{ddr4_says, ddr4_found, ddr4_lint_at, ddr4_findings_of}
+use Rattle.ddr4rules.specs.Lint.{ddr4_says, ddr4_found, ddr4_findings_of}
 
 module _ (s : List ℕ) where
   -- of a decoded image those of its record, of a refused one none

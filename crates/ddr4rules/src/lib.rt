@@ -1,4 +1,6 @@
 // The linter of a DDR4 image: three of DDR5's rules on its record.
+#![tactic(auto)]
+
 ghost use Rattle.std.specs.Prelude.{◌≡◌};
 ghost use Rattle.reading.specs.Lent.{listed};
 ghost use Rattle.ddr4rules.specs.Lint.{ddr4_says, ddr4_findings_of, ddr4_lint_said, ddr4_lint_of, ddr4_replied, ddr4_answer_said, ddr4_answer_of};
@@ -10,7 +12,7 @@ use reading::Refusal;
 use rules::TimingOrder;
 
 // What each of the three rules says.
-#[derive(Drop)]
+#[derive(Clone, Copy)]
 pub struct Ddr4Checked {
     pub devices: Found,
     pub ras: Found,
@@ -18,20 +20,20 @@ pub struct Ddr4Checked {
 }
 
 // What linting an image answers by value. A refused image has no findings.
-#[derive(Drop)]
+#[derive(Clone, Copy)]
 pub struct Ddr4Linted {
     pub ddr4: Ddr4Answer,
     pub findings: Findings,
 }
 
 // The record, and how many findings are in the lent list.
-#[derive(Drop)]
+#[derive(Clone, Copy)]
 pub struct Ddr4Records {
     pub ddr4: Ddr4,
     pub count: usize,
 }
 
-#[derive(Drop)]
+#[derive(Clone, Copy)]
 pub enum Ddr4LintAnswer {
     Listed(Ddr4Records),
     Refused(Refusal),

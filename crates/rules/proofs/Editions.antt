@@ -1,9 +1,9 @@
 -- What the editions have to do with each other. Of the sixteen rules fifteen do not ask for the edition; the one that does, on the data rate, is the
 -- last. So the findings under edition 1 are those under edition 2, in the same order, and behind them at most one on the rate: `added_at` says
 -- which. Nothing is promised in these terms. Assumes nothing.
-use Prim.Native.Nat.{ℕ, ◌≤◌, ◌<◌, ◌%◌}
+use Prim.Native.Nat.{ℕ, ◌%◌}
 use mathlib.Core.Path.{◌≡◌, refl, sym, ap, ◌∙◌}
-use mathlib.Core.Bool.{Bool, true, false}
+use mathlib.Core.Bool.{true, false}
 use mathlib.Core.Logic.{◌⊎◌, inl, inr, ⊎_elim}
 use mathlib.Core.List.{List, [], ◌∷◌, ◌++◌, append-nil, append_assoc}
 use native.Mathlib.Omega.{arith}

@@ -55,6 +55,7 @@ module _ (t : Finding → Three) where
 
   -- and a place in use holds its finding
   lane-at : (l : List Finding) (r : List ℕ) (k : ℕ) → k < length l → three_at (flat t l ++ r) k ≡ t (get_or l k blank_finding)
+  lane-at [] r k h = elim h [ ]
   lane-at (f ∷ l) r zero h = refl
   lane-at (f ∷ l) r (suc k) h =
       let e₀ : 3 * suc k ≡ suc (suc (suc (3 * k))) = omega arith in

@@ -8,7 +8,6 @@ use lib.Dec.{eqb, leb}
 use borrow.Author.Tests.{leb-true, eqb-true, le-leb, eq-eqb, ne_eqb}
 use Rattle.reading.specs.Pick.{pick, and}
 use Rattle.reading.proofs.Picked.{either, by-test, both}
-use Rattle.findings.specs.declared.Found.{Found}
 use Rattle.findings.specs.declared.Found.TheVariants.{Nothing, One}
 use Rattle.rules.specs.declared.Edition.{Edition}
 use Rattle.rules.specs.declared.Edition.TheVariants.{First, Second}

@@ -2,7 +2,7 @@ pub mod Ladder
 pub mod Editions
 pub mod Scan
 pub mod Gathered
-pub mod Linter
+pub mod Filled
 pub mod Never
 pub mod Reach
 pub mod Inside

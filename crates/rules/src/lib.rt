@@ -1,5 +1,7 @@
 // The rules and the linter. A rule answers one finding or none; the findings of an image come in document 01's order.
 // The linter hands them out as records by value, as numbers in two lent lists, or as records in a lent list.
+#![tactic(auto)]
+
 ghost use Rattle.std.specs.Prelude.{◌≡◌, ◌<◌, ◌≤◌, length};
 ghost use Rattle.reading.specs.Lent.{laid, listed};
 ghost use Rattle.findings.specs.Hold.{holding};
@@ -26,7 +28,7 @@ mod table;
 pub mod timing;
 
 // The edition of JESD79-5 whose ladder a data rate is held to.
-#[derive(Drop)]
+#[derive(Clone, Copy)]
 pub enum Edition {
     First,
     Second,
@@ -45,7 +47,7 @@ impl Edition {
 }
 
 // An edition, or why a number is none.
-#[derive(Drop)]
+#[derive(Clone, Copy)]
 pub enum EditionAnswer {
     Chosen(Edition),
     Refused(Refusal),
@@ -63,7 +65,7 @@ pub fn edition_of(number: u32) -> EditionAnswer
 }
 
 // A timing ordering that must hold; it chooses the finding's sub.
-#[derive(Drop)]
+#[derive(Clone, Copy)]
 pub enum TimingOrder {
     // tRAS must be at least tRCD.
     RasGeRcd,
@@ -84,7 +86,7 @@ impl TimingOrder {
 }
 
 // A timing that must be a whole multiple of the cycle time; it chooses the finding's sub.
-#[derive(Drop)]
+#[derive(Clone, Copy)]
 pub enum ClockTimingParam {
     Trcd,
     Trp,
@@ -103,14 +105,14 @@ impl ClockTimingParam {
 }
 
 // The latencies that a CAS latency is held against, where there is such a set.
-#[derive(Drop)]
+#[derive(Clone, Copy)]
 pub enum SupportedSet {
     Unknown,
     Known(CasLatencies),
 }
 
 // The timings of a rated profile, which the caller supplies.
-#[derive(Drop)]
+#[derive(Clone, Copy)]
 pub struct RatedTimings {
     pub cycle_time: Picoseconds,
     pub taa: Picoseconds,
@@ -121,7 +123,7 @@ pub struct RatedTimings {
 }
 
 // What linting an image answers by value. A decoder's refusal stands for its record alone.
-#[derive(Drop)]
+#[derive(Clone, Copy)]
 pub struct Linted {
     pub identity: IdentityAnswer,
     pub timings: TimingsAnswer,
@@ -129,20 +131,20 @@ pub struct Linted {
 }
 
 // The same with the findings in a lent list, so many of them.
-#[derive(Drop)]
+#[derive(Clone, Copy)]
 pub struct LintRecords {
     pub identity: IdentityAnswer,
     pub timings: TimingsAnswer,
     pub count: usize,
 }
 
-#[derive(Drop)]
+#[derive(Clone, Copy)]
 pub enum LintAnswer {
     Listed(LintRecords),
     Refused(Refusal),
 }
 
-#[derive(Drop)]
+#[derive(Clone, Copy)]
 pub enum RatedAnswer {
     Listed(usize),
     Refused(Refusal),
@@ -167,6 +169,7 @@ pub fn lint_image(image: &[u8], edition: Edition) -> Linted
 
 // Lint an image into two lent lists of at least forty-five numbers: for each finding its code, severity and sub in the one, its three numbers in the
 // other. No record is made, so this is the way for a caller that only passes the numbers on.
+#[tactic(auto, unfolding(crate::specs::Lanes::lint_numbers_of, crate::specs::Lanes::heads_after, crate::specs::Lanes::numbers_after))]
 pub fn lint_numbers(
     image: &[u8],
     edition: Edition,
@@ -209,6 +212,7 @@ fn run_rules(image: &[u8], edition: Edition, heads: &mut [u8], numbers: &mut [u3
 }
 
 // Lint an image into a lent list of at least fifteen places: the first places hold the findings, the others stay.
+#[tactic(auto, unfolding(crate::specs::Lint::lint_answer_of))]
 pub fn lint(image: &[u8], edition: Edition, list: &mut [Finding]) -> LintAnswer
     ensures { (lint_answer_said result ≡ lint_answer_of edition image.now list.old) × (list.new ≡ listed 15 (findings_of edition image.now) list.old) }
 {
@@ -259,6 +263,7 @@ pub fn check_device_count(bus_width_bits: u16, io_width_bits: u16) -> Found
 }
 
 // The rules that apply to a rated profile, into a lent list of at least five places.
+#[tactic(auto, unfolding(crate::specs::Lint::rated_of, crate::specs::Lint::rated_findings))]
 pub fn check_rated_profile(r: RatedTimings, edition: Edition, list: &mut [Finding]) -> RatedAnswer
     ensures { (rated_said result ≡ rated_of edition r list.old) × (list.new ≡ listed 5 (rated_findings edition r) list.old) }
 {
@@ -280,6 +285,7 @@ fn rated_reply(len: usize, count: usize) -> RatedAnswer
 }
 
 // The findings of a rated profile by value, at most five.
+#[tactic(auto, unfolding(findings::specs::Hold::holding, crate::specs::Lint::rated_findings))]
 pub fn rated_findings(r: RatedTimings, edition: Edition) -> Findings
     ensures { result ≡ holding (rated_findings edition r) }
 {

@@ -89,6 +89,7 @@ fn first_nonzero_byte(image: &[u8], from: usize, end: usize) -> Found
 }
 
 // The eight bytes from a place as one number, low byte first: one load.
+#[tactic(auto, unfolding(crate::specs::Word::le64))]
 fn eight_bytes(image: &[u8], i: usize) -> u64
     requires { i + 8 ≤ length image.now }
     ensures { result ≡ le64 image.now i }

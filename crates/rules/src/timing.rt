@@ -148,6 +148,7 @@ pub(crate) fn check_standard_rate(data_rate_mt_s: u32, edition: Edition) -> Foun
 }
 
 // On the ladder: a multiple of 400 from 3200 to its end.
+#[tactic(auto, unfolding(crate::specs::Rules::on_ladder))]
 fn is_standard(rate: u32, edition: Edition) -> bool
     ensures { result ≡ on_ladder edition rate }
 {

@@ -1,0 +1,14 @@
+-- `rules::lint` meets its contract: an image's findings are at most fifteen, which fit the places asked for. Assumes nothing.
+use Rattle.std.proofs.Common.{length, ap, ◌∙◌}
+use Rattle.rules.specs.Lint.{Lint, findings_of, replied, lint_answer_of}
+use Rattle.rules.proofs.Filled.{filled-by}
+use Rattle.rules.proofs.Never.{at-most-fifteen}
+use Rattle.rules.proofs.lint.Goals as goal
+
+pub returns : goal.returns
+unfolding lint_answer_of
+returns c =
+    let xs = c.args.list.now in
+    let e = c.lint_image-linted.ensures in
+    let h = at-most-fifteen c.args.edition c.args.image.now in
+    (c.lint_reply.ensures ∙ ap (replied (length xs)) e, filled-by (findings_of c.args.edition c.args.image.now) xs 15 (ap (λ (t : Lint). t.findings) e) h h c.fill.ensures)
