@@ -1,11 +1,11 @@
 -- The rule for a piece, by its three cases, and what an answer says of the call. Assumes nothing.
-use Prim.Native.Nat.{ℕ, ◌+◌, ◌<◌, ◌≤◌}
+use Prim.Native.Nat.{ℕ, ◌+◌, ◌≤◌}
 use mathlib.Core.Path.{◌≡◌, refl, ap, ◌∙◌}
 use mathlib.Core.Bool.{true, false, true≢false, false≢true}
 use native.Mathlib.Omega.{arith}
 use lib.ListN.{length}
 use lib.Dec.{eqb, leb}
-use borrow.Author.Tests.{eq-eqb, ne_eqb, le-leb, lt-leb, leb-true}
+use borrow.Author.Tests.{leb-true}
 use Rattle.reading.specs.Pick.{and}
 use Rattle.reading.specs.Said.{Told, Said, gives, refuses, refused, onward}
 use Rattle.reading.proofs.Picked.{by-test}
@@ -13,15 +13,6 @@ use Rattle.pieces.specs.Fed.{longest, accepted_at}
 use Rattle.pieces.specs.Run.{Call, takes, answer_at}
 
 module _ (n offset len : ℕ) where
-  pub wrong-offset : (offset ≡ n → ⊥) → refused 5 n 0 ≡ accepted_at n offset len
-  wrong-offset h = rw (ne_eqb offset n h)
-
-  pub too_long : offset ≡ n → longest < n + len → refused 6 0 0 ≡ accepted_at n offset len
-  too_long e h = rw (eq-eqb offset n e, lt-leb (n + len) longest h)
-
-  pub accepted : offset ≡ n → n + len ≤ longest → gives (n + len) ≡ accepted_at n offset len
-  accepted e h = rw (eq-eqb offset n e, le-leb (n + len) longest h)
-
   -- a count that is given is that with the piece, and within the longest image
   pub given : {m : ℕ} → accepted_at n offset len ≡ gives m → (m ≡ n + len) × (m ≤ longest)
   given {m} e = by-test (eqb offset n)

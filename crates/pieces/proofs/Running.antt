@@ -6,11 +6,10 @@ use mathlib.Core.List.{List, [], ◌∷◌, ◌++◌, append-nil, append_assoc}
 use native.Mathlib.Omega.{arith}
 use lib.ListN.{length, length-append}
 use borrow.Author.Tests.{eq-eqb, le-leb}
-use Rattle.reading.specs.Said.{Said}
 use Rattle.reading.proofs.Picked.{by-test}
 use Rattle.rules.specs.declared.Edition.{Edition}
 use Rattle.pieces.specs.Fed.{fresh_pieces, longest, Holds}
-use Rattle.pieces.specs.Run.{Call, takes, taken_from, join, image, run_from, run, answer_at, answers_from, said_from, in_order}
+use Rattle.pieces.specs.Run.{Call, takes, taken_from, join, image, run_from, run, answers_from, said_from, in_order}
 use Rattle.pieces.specs.declared.Pieces.{Pieces}
 use Rattle.pieces.proofs.Holding.{fresh_holds, taken, refused, answered, same-edition, same-state}
 

@@ -1,5 +1,7 @@
 // An image that arrives in pieces, each with its offset. The state goes in by value and comes back.
 // A piece is taken where its offset is the count taken, so a burst that comes twice can shift nothing.
+#![tactic(auto)]
+
 ghost use Rattle.std.specs.Prelude.{◌≡◌, ◌+◌, ◌-◌, min, ◌≤◌, length, take};
 ghost use Rattle.reading.specs.Lent.{listed};
 ghost use Rattle.decoders.specs.Answers.{identity_said, timings_said};
@@ -27,7 +29,7 @@ pub const LONGEST: usize = 2048;
 pub const KEPT: usize = 555;
 
 // The bytes kept, 0 where none has arrived yet, the count of bytes taken, and the edition that it got when fresh.
-#[derive(Drop)]
+#[derive(Clone, Copy)]
 pub struct Pieces {
     pub kept: [u8; KEPT],
     pub taken: usize,
@@ -35,14 +37,14 @@ pub struct Pieces {
 }
 
 // The count of bytes taken with this piece, or why it was not taken.
-#[derive(Drop)]
+#[derive(Clone, Copy)]
 pub enum FeedAnswer {
     Taken(usize),
     Refused(Refusal),
 }
 
 // The state after a piece, with the answer. A state that refused a piece is as it was.
-#[derive(Drop)]
+#[derive(Clone, Copy)]
 pub struct Fed {
     pub state: Pieces,
     pub answer: FeedAnswer,

@@ -10,7 +10,7 @@ use lib.Dec.{eqb, ltb}
 use lib.ListN.{length, get_or, drop, take, length-append, get_or-append}
 use lib.Seq.{get_or-drop, get_or-take, length-take-le}
 use Rattle.reading.specs.Pick.{pick}
-use Rattle.reading.specs.Said.{Said, gives, refuses, refused, no}
+use Rattle.reading.specs.Said.{Said, gives, refuses, refused}
 use Rattle.reading.proofs.Picked.{by-test, either}
 use Rattle.findings.specs.declared.Finding.{Finding}
 use Rattle.rules.specs.Table.{all_in}

@@ -1,6 +1,6 @@
 -- What linting finds can always be reported: at most fifteen findings, all of the table's, with flags of two bits. So want of room is the
 -- only refusal. Assumes nothing.
-use Prim.Native.Nat.{ℕ, ◌+◌, ◌<◌, ◌≤◌}
+use Prim.Native.Nat.{ℕ, ◌+◌, ◌≤◌}
 use mathlib.Core.Path.{◌≡◌, ◌∙◌}
 use mathlib.Core.List.{List}
 use native.Mathlib.Omega.{arith}

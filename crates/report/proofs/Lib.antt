@@ -1,4 +1,3 @@
-pub mod Rows
 pub mod Form
 pub mod Turns
 pub mod Stated

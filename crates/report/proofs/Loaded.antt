@@ -7,13 +7,15 @@ use native.Mathlib.Omega.{arith}
 use borrow.Author.Tests.{le-ltb, ltb-false}
 use lib.Dec.{ltb}
 use lib.ListN.{length, take}
+use Rattle.reading.specs.Lent.{laid}
 use Rattle.reading.specs.Said.{Said, gives, refuses}
 use Rattle.reading.proofs.Picked.{by-test}
 use Rattle.findings.specs.declared.Finding.{Finding}
 use Rattle.findings.specs.declared.Findings.{Findings}
 use Rattle.findings.specs.Hold.{holding}
 use Rattle.findings.specs.Lent.{places_of, loaded_of}
-use Rattle.findings.proofs.Laws.{over, load-held, list_held, filled}
+use Rattle.findings.proofs.Laws.{load-held, list_held}
+use Rattle.rules.proofs.Filled.{filled-by}
 use Rattle.report.specs.Write.{write_of, found_of, written_over}
 use Rattle.report.specs.Read.{Content, content_of, contained, reading_of, read_after}
 use Rattle.report.proofs.Trip.{reportable-read}
@@ -43,6 +45,8 @@ few-read : (s : List ℕ) (v : Said Content) → content_of s ≡ v → length (
 few-read s (gives c) e = (reportable-read s e).few
 few-read s (refuses t) e = omega arith
 
-pub read-filled : (s : List ℕ) (list : List Finding) → over (places_of (length list) 15 (reading_of s).findings.count) (reading_of s).findings.items list ≡ read_after s list
-unfolding holding read_after
-read-filled s list = let h = few-read s (content_of s) refl in filled (contained (content_of s)) list 15 h h
+-- what `fill` leaves of a lent list
+pub read-filled : (s : List ℕ) {f : Findings} {r : ℕ} {zs : List Finding} (list : List Finding) → f ≡ (reading_of s).findings
+    → (r ≡ places_of (length list) 15 f.count) × (zs ≡ laid (take r f.items) list) → zs ≡ read_after s list
+unfolding read_after
+read-filled s list e p = let h = few-read s (content_of s) refl in filled-by (contained (content_of s)) list 15 e h h p

@@ -3,7 +3,7 @@
 use Prim.Native.Nat.{ℕ, zero, suc, ◌+◌, ◌*◌, ◌/◌, ◌%◌, ◌<◌, ◌≤◌}
 use mathlib.Core.Path.{◌≡◌, refl, ap, ap₂, sym, ◌∙◌, subst}
 use mathlib.Core.List.{List, [], ◌∷◌, ◌++◌, append_assoc}
-use mathlib.Core.Bool.{Bool, true, false, true≢false}
+use mathlib.Core.Bool.{Bool, true, false}
 use native.Mathlib.Omega.{arith}
 use native.Mathlib.Nat.{not-suc-le-zero, le_of_suc-le-suc}
 use borrow.Author.Tests.{eqb-true, ltb-false}
@@ -11,11 +11,9 @@ use lib.Dec.{eqb, ltb}
 use lib.ListN.{length, get_or, drop, take, length-append, length-drop, take-append-drop}
 use lib.Seq.{get_or-drop, drop-drop}
 use Rattle.reading.specs.Bytes.{AllBytes}
-use Rattle.reading.specs.Pick.{pick, and}
+use Rattle.reading.specs.Pick.{pick}
 use Rattle.reading.specs.Said.{Said, gives, refuses, Told}
 use Rattle.reading.proofs.Picked.{both}
-use Rattle.findings.specs.declared.Severity.{Severity}
-use Rattle.findings.specs.declared.Severity.TheVariants.{Error, Warning, Info}
 use Rattle.findings.specs.declared.Finding.{Finding}
 use Rattle.findings.specs.Same.{same_severity}
 use Rattle.findings.proofs.Same.{same-severity-is}

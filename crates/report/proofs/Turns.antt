@@ -2,20 +2,18 @@
 use Prim.Native.Nat.{ℕ, zero, suc, ◌+◌, ◌-◌, ◌*◌, ◌<◌, ◌≤◌}
 use mathlib.Core.Path.{◌≡◌, refl, ap, sym, ◌∙◌}
 use mathlib.Core.List.{List, [], ◌∷◌, ◌++◌, append_assoc}
-use mathlib.Core.Bool.{Bool}
 use native.Mathlib.Omega.{arith}
 use native.Mathlib.Nat.{not-suc-le-zero, le_of_suc-le-suc}
 use native.Mathlib.Numerals.{add-one}
-use lib.ListN.{length, take, drop, get_or, set, length-append, length-drop, drop_of_length-le}
-use lib.Seq.{drop-cons, drop-drop, take-suc, take_all, take-append_seam, get_or-take, length-take-le, drop-append-add}
-use Rattle.reading.specs.Pick.{and}
+use lib.ListN.{length, take, drop, get_or, set, length-append, length-drop}
+use lib.Seq.{drop-drop, take-suc, take_all, take-append_seam, get_or-take, length-take-le, drop-append-add}
 use Rattle.reading.specs.Lent.{laid}
 use Rattle.findings.specs.declared.Severity.TheVariants.{Error}
 use Rattle.findings.specs.declared.Finding.{Finding}
 use Rattle.findings.specs.declared.Findings.{Findings}
 use Rattle.findings.specs.Hold.{blank_items, holding}
 use Rattle.findings.proofs.Laws.{kept-few, over, over-step, load-held}
-use Rattle.rules.specs.Table.{finding, in_table, all_in}
+use Rattle.rules.specs.Table.{finding}
 use Rattle.rules.specs.Gathering as rules
 use Rattle.rules.specs.Gathering.{first_findings}
 use Rattle.rules.proofs.Gathered.{length-first}
@@ -25,18 +23,6 @@ use Rattle.report.proofs.Form.{length-body}
 -- what an array is taken to hold past its end, where no turn reads
 abbrev unread : Finding
 unread = finding 0 Error 0 0 0 0
-
--- ---- all_in: what is left of the first n answers as they do
-module _ (n : ℕ) (xs : List Finding) (h : n ≤ length xs) where
-  pub next-in : (i : ℕ) → i < n → {t : Bool} → in_table (get_or xs i unread) ≡ t → all_in (drop i (take n xs)) ≡ and t (all_in (drop (i + 1) (take n xs)))
-  next-in i k e =
-      let l = length-take-le n xs h in
-      rw (add-one, drop-cons (take n xs) i unread (omega arith), get_or-take n xs i unread k, e)
-
-  pub none_left : (i : ℕ) → n ≤ i → drop i (take n xs) ≡ []
-  none_left i k =
-      let l : length (take n xs) ≤ i = omega (arith, length-take-le n xs h) in
-      drop_of_length-le (take n xs) l
 
 -- ---- gather: the findings of the first i places stand over blank places
 pub length-findings : (n : ℕ) (t : List ℕ) → length (findings_in t n) ≡ n
@@ -91,11 +77,6 @@ module _ (flags n : ℕ) (xs : List Finding) (h : n ≤ length xs) where
       let e : take (i + 1) l ≡ take i l ++ (get_or xs i unread ∷ []) = rw (add-one, take-suc l i unread (omega arith), get_or-take n xs i unread k) in
       next_row flags n (take i l) (get_or xs i unread) d (head_size + finding_size * i) (omega (arith, length-body (take i l), length-take-le i l (omega arith))) p q r
       ∙ ap (λ (t : List Finding). laid (head_of flags n ++ body_of t) d) (sym e)
-
-  pub all-put : (d : List ℕ) (i : ℕ) → n ≤ i → {o out : List ℕ} → o ≡ laid (head_of flags n) d → out ≡ laid (head_of flags n ++ body_of (take i (take n xs))) o → out ≡ laid (report_of flags (take n xs)) d
-  all-put d i k {o} p q =
-      let m = length-take-le n xs h in
-      all-rows flags (take n xs) d m p (q ∙ ap (λ (t : List Finding). laid (head_of flags n ++ body_of t) o) (take_all i (take n xs) (omega arith)))
 
 -- ---- put_numbers: the same, where the findings stand as numbers
 module _ (flags n : ℕ) (hs ns : List ℕ) where

@@ -1,5 +1,7 @@
 // The report form, version 1: findings written into a lent buffer, and read back.
 // What is written reads back as it was, and nothing else is read: proofs/Trip.antt.
+#![tactic(auto)]
+
 ghost use Rattle.std.specs.Prelude.{◌≡◌, ◌+◌, ◌*◌, ◌<◌, ◌≤◌, [], ◌∷◌, ◌++◌, length, drop, take};
 ghost use Rattle.reading.specs.Lent.{laid};
 ghost use Rattle.rules.specs.Table.{row_of, in_table, all_in};
@@ -28,14 +30,14 @@ const VERSION: u8 = 1;
 const ANY: u32 = 4294967295;
 
 // How many bytes of the buffer the report takes, or why it was not written.
-#[derive(Drop)]
+#[derive(Clone, Copy)]
 pub enum WriteAnswer {
     Bytes(usize),
     Refused(Refusal),
 }
 
 // What linting into a report answers. A decoder's refusal stands for its record alone: the report is written all the same.
-#[derive(Drop)]
+#[derive(Clone, Copy)]
 pub struct LintReport {
     pub identity: IdentityAnswer,
     pub timings: TimingsAnswer,
@@ -43,14 +45,14 @@ pub struct LintReport {
 }
 
 // A report's flags and how many findings it has, or why it is none.
-#[derive(Drop)]
+#[derive(Clone, Copy)]
 pub enum ReadAnswer {
     Report { flags: u8, count: usize },
     Refused(Refusal),
 }
 
 // What reading answers by value; without a report there are no findings.
-#[derive(Drop)]
+#[derive(Clone, Copy)]
 pub struct Reading {
     pub answer: ReadAnswer,
     pub findings: Findings,
@@ -64,6 +66,7 @@ pub fn write(flags: u8, list: &[Finding], out: &mut [u8]) -> WriteAnswer
 }
 
 // The same of findings by value: refused 12 before 8, and a refusal writes nothing.
+#[tactic(auto, unfolding(crate::specs::Write::found_of, crate::specs::Write::write_of, crate::specs::Write::written_over))]
 pub fn write_findings(flags: u8, found: Findings, out: &mut [u8]) -> WriteAnswer
     ensures answer { write_said result ≡ found_of flags found (length out.old) }
     ensures later { out.new ≡ written_over (found_of flags found (length out.old)) flags (take found.count found.items) out.old }
@@ -82,6 +85,7 @@ pub fn write_findings(flags: u8, found: Findings, out: &mut [u8]) -> WriteAnswer
 }
 
 // Writes findings that are the form's, where the buffer has room for them.
+#[tactic(auto, unfolding(crate::specs::Write::written_over))]
 fn write_fitting(flags: u8, found: Findings, out: &mut [u8]) -> WriteAnswer
     requires { found.count ≤ 15 }
     ensures answer { write_said result ≡ fitted found.count (length out.old) }
@@ -124,6 +128,7 @@ pub fn lint_report(image: &[u8], edition: Edition, out: &mut [u8]) -> LintReport
 }
 
 // Writes findings that stand as numbers in two flat lists, where the buffer has room for them.
+#[tactic(auto, unfolding(crate::specs::Write::written_over))]
 fn write_numbers(flags: u8, heads: &[u8], numbers: &[u32], n: usize, out: &mut [u8]) -> WriteAnswer
     requires { (n ≤ 15) × (45 ≤ length heads.now) × (45 ≤ length numbers.now) }
     ensures answer { write_said result ≡ fitted n (length out.old) }
@@ -217,13 +222,14 @@ fn read_body(bytes: &[u8], rest: usize) -> Reading
 }
 
 // The findings of a report's body, and whether each is one of the table's.
-#[derive(Drop)]
+#[derive(Clone, Copy)]
 struct Gathered {
     ok: bool,
     findings: Findings,
 }
 
 // A refusal, with no findings.
+#[tactic(auto, unfolding(findings::specs::Hold::holding))]
 fn refused(why: Refusal) -> Reading
     ensures { reading_said result ≡ read_refused why }
 {
@@ -314,10 +320,11 @@ fn wide(x: u8) -> usize
 }
 
 // A row of the report table: the severity, the lowest and the highest sub, and the most that each number may be.
-#[derive(Drop)]
+#[derive(Clone, Copy)]
 struct Limits(Severity, u8, u8, u32, u32, u32);
 
 // The row of a code. No sub fits any other code.
+#[tactic(auto, unfolding(rules::specs::Table::row_of))]
 fn limits_of(code: u8) -> Limits
     ensures { IsLimited (row_of code) result }
 {
@@ -336,6 +343,7 @@ fn limits_of(code: u8) -> Limits
 }
 
 // Whether a finding is one of the report table's.
+#[tactic(auto, unfolding(rules::specs::Table::in_table))]
 pub fn in_table(f: Finding) -> bool
     ensures { result ≡ in_table f }
 {
