@@ -1,44 +1,26 @@
 -- What the tests that led to an end of an export say of its answer and of what was lent: one law for each end, over any list of numbers
 -- and any question to a state. Assumes nothing.
-use Prim.Native.Nat.{ℕ, ◌<◌, ◌≤◌}
+use Prim.Native.Nat.{ℕ, ◌≤◌}
 use mathlib.Core.Path.{◌≡◌, refl, sym, ap, ◌∙◌}
 use mathlib.Core.List.{List}
 use lib.IntN.{ℤ, pos}
 use lib.ListN.{length}
-use borrow.Author.Tests.{lt-ltb, le-ltb}
-use Rattle.reading.specs.Pick.{pick}
-use Rattle.reading.specs.Said.{Told, Said, gives, refuses, refused}
+use borrow.Author.Tests.{le-ltb}
+use Rattle.reading.specs.Said.{Told, Said, gives, refuses}
 use Rattle.reading.specs.Lent.{laid}
 use Rattle.rules.specs.declared.Edition.{Edition}
-use Rattle.rules.specs.Lint.{edition_of}
 use Rattle.report.specs.Write.{lint_report_of, lint_report_after}
 use Rattle.roostcord.specs.Word.{word_of}
 use Rattle.roostcord.specs.Numbers.{listed_in, list_after}
-use Rattle.roostcord.specs.Chosen.{lint_in, lint_after}
-use Rattle.roostcord.specs.State.{state_size, short, asked, arrived_in}
 
 -- a decoder's answer r that says x, and the case that a match found in it
 pub found : {A E : Type 0} (say : E → Said A) {r e : E} {x : Said A} → say r ≡ x → r ≡ e → x ≡ say e
 found say p q = sym p ∙ ap say q
 
--- linting by a number that stands for an edition is linting under that edition
-module _ (n : ℕ) {e : Edition} (c : edition_of n ≡ gives e) where
-  pub lint-chosen : (s : List ℕ) (room : ℕ) → lint_in n s room ≡ lint_report_of e s room
-  unfolding lint_in
-  lint-chosen s room = rw c
-
-  pub lint-chosen-after : (s out : List ℕ) → lint_after n s out ≡ lint_report_after e s out
-  unfolding lint_after
-  lint-chosen-after s out = rw c
-
 -- a list of numbers in a lent list
 module _ (need : ℕ) (numbers : Said (List ℕ)) (out : List ℕ) where
   abbrev Listed : ℤ → List ℕ → Type 0
   Listed z later = (z ≡ word_of (listed_in need numbers (length out))) × (later ≡ list_after need numbers out)
-
-  pub no_room : length out < need → {z : ℤ} → z ≡ word_of (refused 4 0 0) → Listed z out
-  unfolding listed_in list_after
-  no_room h e = rw (lt-ltb (length out) need h) (e, refl)
 
   pub not_listed : need ≤ length out → {t : Told} → numbers ≡ refuses t → {z : ℤ} → z ≡ word_of (refuses t) → Listed z out
   unfolding listed_in list_after
@@ -58,14 +40,3 @@ listing need numbers out = record { answer = λ s. listed_in need (numbers s) (l
 
 abbrev pub reporting : Edition → List ℕ → Question
 reporting e out = record { answer = λ s. lint_report_of e s (length out); after = λ s. lint_report_after e s out }
-
--- put to a state, it is answered for what has arrived
-module _ (q : Question) (s lent : List ℕ) where
-  abbrev Asked : ℤ → List ℕ → Type 0
-  Asked z later = (z ≡ word_of (asked s (q.answer (arrived_in s)))) × (later ≡ pick (short s) lent (q.after (arrived_in s)))
-
-  pub no-state : length s < state_size → {z : ℤ} → z ≡ word_of (refused 4 0 0) → Asked z lent
-  no-state h e = rw (lt-ltb (length s) state_size h) (e, refl)
-
-  pub of-state : state_size ≤ length s → {a : List ℕ} → a ≡ arrived_in s → {z : ℤ} {later : List ℕ} → z ≡ word_of (q.answer a) → later ≡ q.after a → Asked z later
-  of-state h p e f = rw (le-ltb (length s) state_size h, ← p) (e, f)

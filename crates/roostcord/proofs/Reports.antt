@@ -7,10 +7,9 @@ use native.Mathlib.Omega.{arith}
 use native.Mathlib.Nat.{not-suc-le-zero, le_of_suc-le-suc}
 use native.Mathlib.Numerals.{add-one}
 use lib.ListN.{length, take, set, get_or, length-append}
-use lib.Seq.{take-suc, take_all, get_or-take, length-take-le, sets}
+use lib.Seq.{take-suc, get_or-take, length-take-le, sets}
 use Rattle.reading.specs.Lent.{laid}
-use Rattle.reading.specs.Said.{Told, Said, gives, refuses, told, onward}
-use Rattle.reading.specs.declared.Refusal.{Refusal}
+use Rattle.reading.specs.Said.{Said, gives, refuses}
 use Rattle.findings.specs.declared.Finding.{Finding}
 use Rattle.findings.specs.declared.Findings.{Findings}
 use Rattle.findings.specs.Hold.{blank_finding, holding}
@@ -21,7 +20,6 @@ use Rattle.report.specs.declared.Reading.{Reading}
 use Rattle.report.specs.declared.ReadAnswer.TheVariants as read
 use Rattle.report.proofs.Trip.{reportable-read}
 use Rattle.report.proofs.Behind.{Whole, behind}
-use Rattle.report.proofs.Turns.{laid-again}
 use Rattle.roostcord.specs.Word.{word_of}
 use Rattle.roostcord.specs.Numbers.{finding_numbers, report_numbers, report_list, listed_in, list_after}
 
@@ -55,15 +53,6 @@ pub length-numbers : (l : List Finding) → length (finding_numbers l) ≡ 6 * l
 length-numbers [] = refl
 length-numbers (f ∷ l) = omega (arith, length-numbers l)
 
--- the flags stand in the first place
-pub flagged : (d : List ℕ) (x : ℕ) → 1 ≤ length d → set d 0 x ≡ laid (x ∷ []) d
-flagged [] x h = absurd (omega arith)
-flagged (y ∷ d) x h = refl
-
-pub flagged-again : (d : List ℕ) (x : ℕ) → 1 ≤ length d → set d 0 x ≡ laid (x ∷ []) (set d 0 x)
-flagged-again [] x h = absurd (omega arith)
-flagged-again (y ∷ d) x h = refl
-
 module _ (flags n : ℕ) (xs : List Finding) (h : n ≤ length xs) where
   abbrev up_to : ℕ → List ℕ
   up_to i = flags ∷ finding_numbers (take i (take n xs))
@@ -81,11 +70,6 @@ module _ (flags n : ℕ) (xs : List Finding) (h : n ≤ length xs) where
       ∙ stores (f.code ∷ v ∷ f.sub ∷ f.first ∷ f.second ∷ f.third ∷ []) (up_to i) d w (omega arith) q
       ∙ ap (λ (t : ℕ). laid (up_to i ++ (f.code ∷ t ∷ f.sub ∷ f.first ∷ f.second ∷ f.third ∷ [])) d) s
       ∙ ap (λ (t : List ℕ). laid (flags ∷ t) d) (sym (numbers-last (take i l) f) ∙ ap finding_numbers (sym e))
-
-  pub all_listed : (d : List ℕ) (i : ℕ) → n ≤ i → 1 ≤ length d → {out : List ℕ} → out ≡ laid (up_to i) (set d 0 flags) → out ≡ laid (flags ∷ finding_numbers (take n xs)) d
-  all_listed d i k room q =
-      let m = length-take-le n xs h in
-      q ∙ rw (flagged d flags room, take_all i (take n xs) (omega arith)) (laid-again (flags ∷ []) (finding_numbers (take n xs)) d)
 
 -- ---- bytes behind a report, be it accepted or refused, change neither the answer nor what the list holds afterwards
 pub report-behind : (s t : List ℕ) → Whole s → report_list (s ++ t) ≡ report_list s
@@ -106,10 +90,6 @@ pub record Heard (s : List ℕ) (g : Reading) (flags count : ℕ) : Type 0 where
   pub found : g.findings.count ≡ count
   pub few : count ≤ 15
 
-no-report : (v : Said Content) {t : Told} → counted v ≡ refuses t → onward refuses v (λ c. gives (report_numbers c)) ≡ refuses t
-no-report (gives c) e = absurd (let z : ◌≡◌ {A = ℕ} 0 1 = cc in omega arith)
-no-report (refuses u) {t} e = let z : u ≡ t = cc in ap refuses z
-
 module _ (s : List ℕ) (g : Reading) (e : reading_said g ≡ reading_of s) where
   heard : (v : Said Content) → content_of s ≡ v → (flags count : ℕ) → gives (record { flags = flags; count = count }) ≡ counted v → Heard s g flags count
   unfolding report_list holding
@@ -128,7 +108,3 @@ module _ (s : List ℕ) (g : Reading) (e : reading_said g ≡ reading_of s) wher
 
   pub read-heard : {flags count : ℕ} → g.answer ≡ read.Report flags count → Heard s g flags count
   read-heard {flags} {count} q = heard (content_of s) refl flags count (sym (ap read_said q) ∙ ap (λ (t : Read). t.answer) e)
-
-  pub read-refused : {why : Refusal} → g.answer ≡ read.Refused why → report_list s ≡ refuses (told why)
-  unfolding report_list
-  read-refused q = no-report (content_of s) (sym (ap (λ (t : Read). t.answer) e) ∙ ap read_said q)

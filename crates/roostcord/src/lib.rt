@@ -1,5 +1,7 @@
 // The station's library: what C calls. An answer of 0 or more is a count. Below zero it is a refusal: its word with a minus sign, and nothing
 // that was lent has changed. station/roostcord.h is its header.
+#![tactic(auto)]
+
 ghost use Rattle.std.specs.Prelude.{◌≡◌, ◌+◌, ◌*◌, ◌/◌, ◌%◌, ◌<◌, ◌≤◌, ◌++◌, pos, neg_ℤ, length, take};
 ghost use Rattle.reading.specs.Pick.{pick};
 ghost use Rattle.reading.specs.Said.{told, gives};
@@ -34,16 +36,15 @@ use rules::{Edition, EditionAnswer};
 const STATE_SIZE: usize = 2 + KEPT;
 
 // The version of the library: major * 65536 + minor * 256 + patch.
-#[unsafe(no_mangle)]
-pub extern "C" fn roostcord_version() -> u32
+pub fn roostcord_version() -> u32
     ensures { result ≡ library_version }
 {
     0x020200
 }
 
 // Lints an image under an edition, 1 or 2, and writes its report: how many bytes.
-#[unsafe(no_mangle)]
-pub extern "C" fn roostcord_lint(image: &[u8], edition: u32, report: &mut [u8]) -> i32
+#[tactic(auto, unfolding(crate::specs::Chosen::lint_in, crate::specs::Chosen::lint_after))]
+pub fn roostcord_lint(image: &[u8], edition: u32, report: &mut [u8]) -> i32
     ensures answer { result ≡ word_of (lint_in edition image.now (length report.old)) }
     ensures later { report.new ≡ lint_after edition image.now report.old }
 {
@@ -66,8 +67,8 @@ fn lint_word(image: &[u8], edition: Edition, report: &mut [u8]) -> i32
 }
 
 // Reads a report: its flags, then six numbers for each finding: code, severity (0 error, 1 warning, 2 info), sub and the three numbers.
-#[unsafe(no_mangle)]
-pub extern "C" fn roostcord_report(report: &[u8], out: &mut [u32]) -> i32
+#[tactic(auto, unfolding(crate::specs::Numbers::listed_in, crate::specs::Numbers::report_list, crate::specs::Numbers::list_after))]
+pub fn roostcord_report(report: &[u8], out: &mut [u32]) -> i32
     ensures answer { result ≡ word_of (listed_in 91 (report_list report.now) (length out.old)) }
     ensures later { out.new ≡ list_after 91 (report_list report.now) out.old }
 {
@@ -86,8 +87,8 @@ pub extern "C" fn roostcord_report(report: &[u8], out: &mut [u32]) -> i32
 }
 
 // The identity of an image: eighteen numbers.
-#[unsafe(no_mangle)]
-pub extern "C" fn roostcord_identity(image: &[u8], out: &mut [u32]) -> i32
+#[tactic(auto, using(decoders::proofs::Parts::in_parts), unfolding(crate::specs::Numbers::listed_in, crate::specs::Numbers::identity_list, crate::specs::Numbers::list_after))]
+pub fn roostcord_identity(image: &[u8], out: &mut [u32]) -> i32
     ensures answer { result ≡ word_of (listed_in 18 (identity_list image.now) (length out.old)) }
     ensures later { out.new ≡ list_after 18 (identity_list image.now) out.old }
 {
@@ -115,8 +116,8 @@ pub extern "C" fn roostcord_identity(image: &[u8], out: &mut [u32]) -> i32
 }
 
 // The timings of an image: thirty numbers.
-#[unsafe(no_mangle)]
-pub extern "C" fn roostcord_timings(image: &[u8], out: &mut [u32]) -> i32
+#[tactic(auto, using(decoders::proofs::Read::in_bytes), unfolding(crate::specs::Numbers::listed_in, crate::specs::Numbers::timings_list, crate::specs::Numbers::list_after))]
+pub fn roostcord_timings(image: &[u8], out: &mut [u32]) -> i32
     ensures answer { result ≡ word_of (listed_in 30 (timings_list image.now) (length out.old)) }
     ensures later { out.new ≡ list_after 30 (timings_list image.now) out.old }
 {
@@ -135,8 +136,8 @@ pub extern "C" fn roostcord_timings(image: &[u8], out: &mut [u32]) -> i32
 }
 
 // The supported CAS latencies of an image, ascending: up to forty numbers.
-#[unsafe(no_mangle)]
-pub extern "C" fn roostcord_cas_latencies(image: &[u8], out: &mut [u16]) -> i32
+#[tactic(auto, using(decoders::proofs::Read::in_bytes), unfolding(crate::specs::Numbers::listed_in, crate::specs::Numbers::cas_numbers, crate::specs::Numbers::list_after, decoders::specs::Cas::cas_list_of, decoders::specs::Cas::cas_list_after))]
+pub fn roostcord_cas_latencies(image: &[u8], out: &mut [u16]) -> i32
     ensures answer { result ≡ word_of (listed_in 40 (cas_numbers image.now) (length out.old)) }
     ensures later { out.new ≡ list_after 40 (cas_numbers image.now) out.old }
 {
@@ -159,8 +160,8 @@ pub extern "C" fn roostcord_cas_latencies(image: &[u8], out: &mut [u16]) -> i32
 }
 
 // The clock table of an image: nine numbers.
-#[unsafe(no_mangle)]
-pub extern "C" fn roostcord_clocks(image: &[u8], out: &mut [u32]) -> i32
+#[tactic(auto, using(decoders::proofs::Read::in_bytes), unfolding(crate::specs::Numbers::listed_in, crate::specs::Numbers::clocks_list, crate::specs::Numbers::list_after))]
+pub fn roostcord_clocks(image: &[u8], out: &mut [u32]) -> i32
     ensures answer { result ≡ word_of (listed_in 9 (clocks_list image.now) (length out.old)) }
     ensures later { out.new ≡ list_after 9 (clocks_list image.now) out.old }
 {
@@ -184,8 +185,8 @@ pub extern "C" fn roostcord_clocks(image: &[u8], out: &mut [u32]) -> i32
 }
 
 // The manufacturing block of an image: eleven numbers. `strict` 0 takes the date as it is, any other number in the strict mode.
-#[unsafe(no_mangle)]
-pub extern "C" fn roostcord_manufacturing(image: &[u8], strict: u32, out: &mut [u32]) -> i32
+#[tactic(auto, unfolding(crate::specs::Numbers::listed_in, crate::specs::Numbers::manufacturing_list, crate::specs::Numbers::list_after))]
+pub fn roostcord_manufacturing(image: &[u8], strict: u32, out: &mut [u32]) -> i32
     ensures answer { result ≡ word_of (listed_in 11 (manufacturing_list strict image.now) (length out.old)) }
     ensures later { out.new ≡ list_after 11 (manufacturing_list strict image.now) out.old }
 {
@@ -203,8 +204,8 @@ pub extern "C" fn roostcord_manufacturing(image: &[u8], strict: u32, out: &mut [
 }
 
 // The part number of an image, without the spaces that end it: up to thirty bytes. Where it is refused, the block's call gives the number.
-#[unsafe(no_mangle)]
-pub extern "C" fn roostcord_part_number(image: &[u8], out: &mut [u8]) -> i32
+#[tactic(auto, unfolding(crate::specs::Numbers::listed_in, crate::specs::Numbers::part_list, crate::specs::Numbers::list_after))]
+pub fn roostcord_part_number(image: &[u8], out: &mut [u8]) -> i32
     ensures answer { result ≡ word_of (listed_in 30 (part_list image.now) (length out.old)) }
     ensures later { out.new ≡ list_after 30 (part_list image.now) out.old }
 {
@@ -222,8 +223,8 @@ pub extern "C" fn roostcord_part_number(image: &[u8], out: &mut [u8]) -> i32
 }
 
 // Whether the CRC of an image's base block matches the one that is stored behind it: 1 or 0.
-#[unsafe(no_mangle)]
-pub extern "C" fn roostcord_crc(image: &[u8]) -> i32
+#[tactic(auto, unfolding(crate::specs::Numbers::crc_number))]
+pub fn roostcord_crc(image: &[u8]) -> i32
     ensures { result ≡ word_of (crc_number image.now) }
 {
     match crc::verify_base_crc(image) {
@@ -238,8 +239,7 @@ pub extern "C" fn roostcord_crc(image: &[u8]) -> i32
 }
 
 // Which of two reads is long enough and has a CRC that fits: 1 or 2, the first where both do.
-#[unsafe(no_mangle)]
-pub extern "C" fn roostcord_sound_read(first: &[u8], second: &[u8]) -> i32
+pub fn roostcord_sound_read(first: &[u8], second: &[u8]) -> i32
     ensures { result ≡ word_of (sound_read_of first.now second.now) }
 {
     match crc::sound_read(first, second) {
@@ -250,8 +250,8 @@ pub extern "C" fn roostcord_sound_read(first: &[u8], second: &[u8]) -> i32
 }
 
 // The record of a DDR4 image: nine numbers.
-#[unsafe(no_mangle)]
-pub extern "C" fn roostcord_ddr4(image: &[u8], out: &mut [u32]) -> i32
+#[tactic(auto, unfolding(crate::specs::Numbers::listed_in, crate::specs::Numbers::ddr4_list, crate::specs::Numbers::list_after))]
+pub fn roostcord_ddr4(image: &[u8], out: &mut [u32]) -> i32
     ensures answer { result ≡ word_of (listed_in 9 (ddr4_list image.now) (length out.old)) }
     ensures later { out.new ≡ list_after 9 (ddr4_list image.now) out.old }
 {
@@ -268,8 +268,8 @@ pub extern "C" fn roostcord_ddr4(image: &[u8], out: &mut [u32]) -> i32
 }
 
 // The findings of a DDR4 image: six numbers for each, as in a report, up to three findings.
-#[unsafe(no_mangle)]
-pub extern "C" fn roostcord_ddr4_lint(image: &[u8], out: &mut [u32]) -> i32
+#[tactic(auto, unfolding(crate::specs::Numbers::listed_in, crate::specs::Numbers::ddr4_lint_list, crate::specs::Numbers::list_after, ddr4rules::specs::Lint::ddr4_found))]
+pub fn roostcord_ddr4_lint(image: &[u8], out: &mut [u32]) -> i32
     ensures answer { result ≡ word_of (listed_in 18 (ddr4_lint_list image.now) (length out.old)) }
     ensures later { out.new ≡ list_after 18 (ddr4_lint_list image.now) out.old }
 {
@@ -286,8 +286,8 @@ pub extern "C" fn roostcord_ddr4_lint(image: &[u8], out: &mut [u32]) -> i32
 }
 
 // Makes the first bytes a state of an edition, 1 or 2, that has taken nothing.
-#[unsafe(no_mangle)]
-pub extern "C" fn roostcord_pieces_fresh(state: &mut [u8], edition: u32) -> i32
+#[tactic(auto, unfolding(crate::specs::State::fresh_in, crate::specs::State::fresh_after))]
+pub fn roostcord_pieces_fresh(state: &mut [u8], edition: u32) -> i32
     ensures answer { result ≡ word_of (fresh_in edition state.old) }
     ensures later { state.new ≡ fresh_after edition state.old }
 {
@@ -308,8 +308,8 @@ pub extern "C" fn roostcord_pieces_fresh(state: &mut [u8], edition: u32) -> i32
 }
 
 // Feeds a piece to the state in the first bytes: the count of bytes taken.
-#[unsafe(no_mangle)]
-pub extern "C" fn roostcord_pieces_feed(state: &mut [u8], offset: usize, piece: &[u8]) -> i32
+#[tactic(auto, unfolding(crate::specs::State::feed_in, crate::specs::State::feed_after))]
+pub fn roostcord_pieces_feed(state: &mut [u8], offset: usize, piece: &[u8]) -> i32
     ensures answer { result ≡ word_of (feed_in state.old offset piece.now) }
     ensures later { state.new ≡ feed_after state.old offset piece.now }
 {
@@ -331,8 +331,8 @@ pub extern "C" fn roostcord_pieces_feed(state: &mut [u8], offset: usize, piece: 
 }
 
 // The count of bytes that a state has taken.
-#[unsafe(no_mangle)]
-pub extern "C" fn roostcord_pieces_taken(state: &[u8]) -> i32
+#[tactic(auto, unfolding(crate::specs::State::taken_in))]
+pub fn roostcord_pieces_taken(state: &[u8]) -> i32
     ensures { result ≡ word_of (taken_in state.now) }
 {
     if state.len() < STATE_SIZE {
@@ -342,8 +342,8 @@ pub extern "C" fn roostcord_pieces_taken(state: &[u8]) -> i32
 }
 
 // The questions to a state are those to the image that has arrived, and linting goes by the state's edition.
-#[unsafe(no_mangle)]
-pub extern "C" fn roostcord_pieces_lint(state: &[u8], report: &mut [u8]) -> i32
+#[tactic(auto, unfolding(crate::specs::Chosen::lint_in, crate::specs::Chosen::lint_after))]
+pub fn roostcord_pieces_lint(state: &[u8], report: &mut [u8]) -> i32
     ensures answer { result ≡ word_of (asked state.now (lint_report_of (edition_in state.now) (arrived_in state.now) (length report.old))) }
     ensures later { report.new ≡ pick (short state.now) report.old (lint_report_after (edition_in state.now) (arrived_in state.now) report.old) }
 {
@@ -353,8 +353,7 @@ pub extern "C" fn roostcord_pieces_lint(state: &[u8], report: &mut [u8]) -> i32
     roostcord_lint(arrived(state), edition_in(state), report)
 }
 
-#[unsafe(no_mangle)]
-pub extern "C" fn roostcord_pieces_identity(state: &[u8], out: &mut [u32]) -> i32
+pub fn roostcord_pieces_identity(state: &[u8], out: &mut [u32]) -> i32
     ensures answer { result ≡ word_of (asked state.now (listed_in 18 (identity_list (arrived_in state.now)) (length out.old))) }
     ensures later { out.new ≡ pick (short state.now) out.old (list_after 18 (identity_list (arrived_in state.now)) out.old) }
 {
@@ -364,8 +363,7 @@ pub extern "C" fn roostcord_pieces_identity(state: &[u8], out: &mut [u32]) -> i3
     roostcord_identity(arrived(state), out)
 }
 
-#[unsafe(no_mangle)]
-pub extern "C" fn roostcord_pieces_timings(state: &[u8], out: &mut [u32]) -> i32
+pub fn roostcord_pieces_timings(state: &[u8], out: &mut [u32]) -> i32
     ensures answer { result ≡ word_of (asked state.now (listed_in 30 (timings_list (arrived_in state.now)) (length out.old))) }
     ensures later { out.new ≡ pick (short state.now) out.old (list_after 30 (timings_list (arrived_in state.now)) out.old) }
 {
@@ -375,8 +373,7 @@ pub extern "C" fn roostcord_pieces_timings(state: &[u8], out: &mut [u32]) -> i32
     roostcord_timings(arrived(state), out)
 }
 
-#[unsafe(no_mangle)]
-pub extern "C" fn roostcord_pieces_cas_latencies(state: &[u8], out: &mut [u16]) -> i32
+pub fn roostcord_pieces_cas_latencies(state: &[u8], out: &mut [u16]) -> i32
     ensures answer { result ≡ word_of (asked state.now (listed_in 40 (cas_numbers (arrived_in state.now)) (length out.old))) }
     ensures later { out.new ≡ pick (short state.now) out.old (list_after 40 (cas_numbers (arrived_in state.now)) out.old) }
 {
@@ -386,8 +383,7 @@ pub extern "C" fn roostcord_pieces_cas_latencies(state: &[u8], out: &mut [u16]) 
     roostcord_cas_latencies(arrived(state), out)
 }
 
-#[unsafe(no_mangle)]
-pub extern "C" fn roostcord_pieces_clocks(state: &[u8], out: &mut [u32]) -> i32
+pub fn roostcord_pieces_clocks(state: &[u8], out: &mut [u32]) -> i32
     ensures answer { result ≡ word_of (asked state.now (listed_in 9 (clocks_list (arrived_in state.now)) (length out.old))) }
     ensures later { out.new ≡ pick (short state.now) out.old (list_after 9 (clocks_list (arrived_in state.now)) out.old) }
 {
@@ -397,8 +393,7 @@ pub extern "C" fn roostcord_pieces_clocks(state: &[u8], out: &mut [u32]) -> i32
     roostcord_clocks(arrived(state), out)
 }
 
-#[unsafe(no_mangle)]
-pub extern "C" fn roostcord_pieces_manufacturing(state: &[u8], strict: u32, out: &mut [u32]) -> i32
+pub fn roostcord_pieces_manufacturing(state: &[u8], strict: u32, out: &mut [u32]) -> i32
     ensures answer { result ≡ word_of (asked state.now (listed_in 11 (manufacturing_list strict (arrived_in state.now)) (length out.old))) }
     ensures later { out.new ≡ pick (short state.now) out.old (list_after 11 (manufacturing_list strict (arrived_in state.now)) out.old) }
 {
@@ -408,8 +403,7 @@ pub extern "C" fn roostcord_pieces_manufacturing(state: &[u8], strict: u32, out:
     roostcord_manufacturing(arrived(state), strict, out)
 }
 
-#[unsafe(no_mangle)]
-pub extern "C" fn roostcord_pieces_part_number(state: &[u8], out: &mut [u8]) -> i32
+pub fn roostcord_pieces_part_number(state: &[u8], out: &mut [u8]) -> i32
     ensures answer { result ≡ word_of (asked state.now (listed_in 30 (part_list (arrived_in state.now)) (length out.old))) }
     ensures later { out.new ≡ pick (short state.now) out.old (list_after 30 (part_list (arrived_in state.now)) out.old) }
 {
@@ -419,8 +413,7 @@ pub extern "C" fn roostcord_pieces_part_number(state: &[u8], out: &mut [u8]) -> 
     roostcord_part_number(arrived(state), out)
 }
 
-#[unsafe(no_mangle)]
-pub extern "C" fn roostcord_pieces_crc(state: &[u8]) -> i32
+pub fn roostcord_pieces_crc(state: &[u8]) -> i32
     ensures { result ≡ word_of (asked state.now (crc_number (arrived_in state.now))) }
 {
     if state.len() < STATE_SIZE {
