@@ -4,6 +4,8 @@
 //
 // A state answers as the whole image does where every field of each record, or the refusal and what it carries, and every finding with
 // all its numbers are the same. Each field is made one number for that, a time and its clocks together.
+#![tactic(auto)]
+
 ghost use Rattle.std.specs.Prelude.{◌≤◌, length};
 
 use crc::{CrcAnswer, SoundRead};
@@ -15,10 +17,11 @@ use pieces::{Fed, FeedAnswer, Pieces};
 use printing::{number, refused, text};
 use reading::Refusal;
 use rules::Edition;
+use std::io;
 
 // What is answered of an image: three records as numbers, the block once more in the strict mode, the part number, the check of the base CRC
 // and the findings.
-#[derive(Drop)]
+#[derive(Clone, Copy)]
 struct Answers {
     identity: [u64; 23],
     timings: [u64; 23],
@@ -31,7 +34,7 @@ struct Answers {
 
 // How many fields of each record, bytes of the part number, answers to the check and places of the fifteen for findings differ between two
 // of those.
-#[derive(Drop)]
+#[derive(Clone, Copy)]
 struct Differing {
     identity: usize,
     timings: usize,
@@ -43,16 +46,16 @@ struct Differing {
 }
 
 // Writes an answer, and hands the state back.
-fn told(fed: Fed) -> Pieces {
+fn told(rt: &impl Print, fed: Fed) -> io::Result<Pieces> {
     let answer = fed.answer;
     match answer {
         FeedAnswer::Taken(total) => {
-            text(b" taken");
-            number(total);
+            text(rt, b" taken")?;
+            number(rt, total)?;
         }
-        FeedAnswer::Refused(why) => refused(why),
+        FeedAnswer::Refused(why) => refused(rt, why)?,
     }
-    fed.state
+    Ok(fed.state)
 }
 
 // Every byte is seven more than the one before it, so that no field is as its neighbour or as what stands sixteen bytes further on.
@@ -291,16 +294,17 @@ fn unequal(a: [u64; 23], b: [u64; 23]) -> usize {
 }
 
 // The codes of the findings.
-fn codes(found: Findings) {
+fn codes(rt: &impl Print, found: Findings) -> io::Result<()> {
     let items = found.items;
     let mut i: usize = 0;
     while i < 15 {
         if i < found.count {
             let one = items[i];
-            number(one.code as usize);
+            number(rt, one.code as usize)?;
         }
         i += 1;
     }
+    Ok(())
 }
 
 // How many of the fifteen places differ; a blank place is as another.
@@ -413,16 +417,17 @@ fn same(a: Answers, b: Answers) -> bool {
     d.findings == 0
 }
 
-fn verdict(same: bool) {
+fn verdict(rt: &impl Print, same: bool) -> io::Result<()> {
     if same {
-        text(b" as the whole image\n");
+        text(rt, b" as the whole image\n")?;
     } else {
-        text(b" NOT as the whole image\n");
+        text(rt, b" NOT as the whole image\n")?;
     }
+    Ok(())
 }
 
 // An image in bursts of sixteen, one of them sent twice.
-fn forty(image: &[u8], twice: usize) -> Pieces {
+fn forty(rt: &impl Print, image: &[u8], twice: usize) -> io::Result<Pieces> {
     let mut state = Pieces::of(Edition::Second);
     let mut at: usize = 0;
     while 16 <= image.len() - at {
@@ -430,11 +435,11 @@ fn forty(image: &[u8], twice: usize) -> Pieces {
         let fed = state.feed(at, &image[at..end]);
         state = fed.state;
         if at == twice {
-            state = told(state.feed(at, &image[at..end]));
+            state = told(rt, state.feed(at, &image[at..end]))?;
         }
         at = end;
     }
-    state
+    Ok(state)
 }
 
 // What the station made of the same bursts: each laid behind the last, so that all that follows lies sixteen bytes too far on.
@@ -451,39 +456,44 @@ fn by_arrival(image: [u8; 576], twice: usize) -> [u8; 576] {
 }
 
 // The run of the forty certificates: the state answers as the whole image, and the image as it was taken by arrival does not.
-fn certificates(image: [u8; 576], twice: usize) {
-    text(b"forty, the burst at");
-    number(twice);
-    text(b" twice:");
-    let answers = asked(forty(&image, twice));
-    verdict(same(answers, whole(&image, Edition::Second)));
+fn certificates(rt: &impl Print, image: [u8; 576], twice: usize) -> io::Result<()> {
+    text(rt, b"forty, the burst at")?;
+    number(rt, twice)?;
+    text(rt, b" twice:")?;
+    let answers = asked(forty(rt, &image, twice)?);
+    verdict(rt, same(answers, whole(&image, Edition::Second)))?;
     let shifted = by_arrival(image, twice);
     let d = beside(answers, whole(&shifted, Edition::Second));
-    text(b"by arrival: differ");
-    number(d.identity);
-    text(b" of 17 identity fields,");
-    number(d.timings);
-    text(b" of 20 timings,");
-    number(d.block);
-    text(b" of 10 numbers of the block,");
-    number(d.part);
-    text(b" of the part number,");
-    number(d.crc);
-    text(b" of 1 CRC check,");
-    number(d.findings);
-    text(b" findings\n");
+    text(rt, b"by arrival: differ")?;
+    number(rt, d.identity)?;
+    text(rt, b" of 17 identity fields,")?;
+    number(rt, d.timings)?;
+    text(rt, b" of 20 timings,")?;
+    number(rt, d.block)?;
+    text(rt, b" of 10 numbers of the block,")?;
+    number(rt, d.part)?;
+    text(rt, b" of the part number,")?;
+    number(rt, d.crc)?;
+    text(rt, b" of 1 CRC check,")?;
+    number(rt, d.findings)?;
+    text(rt, b" findings\n")
 }
 
 // Two reads: which of them is sound, how many bytes its base block has, and how many of those are the image's.
-fn two_reads<'a>(first: &'a [u8], second: &'a [u8], image: &[u8]) {
+fn two_reads<'a>(
+    rt: &impl Print,
+    first: &'a [u8],
+    second: &'a [u8],
+    image: &[u8],
+) -> io::Result<()> {
     match crc::sound_read(first, second) {
-        SoundRead::First => text(b" the first,"),
-        SoundRead::Second => text(b" the second,"),
-        SoundRead::Refused(why) => refused(why),
+        SoundRead::First => text(rt, b" the first,")?,
+        SoundRead::Second => text(rt, b" the second,")?,
+        SoundRead::Refused(why) => refused(rt, why)?,
     }
     let block = crc::base_block(first, second);
-    number(block.len());
-    number(equal_bytes(block, image));
+    number(rt, block.len())?;
+    number(rt, equal_bytes(block, image))
 }
 
 // How many bytes are as those of the image in the same places.
@@ -504,17 +514,17 @@ fn equal_bytes(bytes: &[u8], image: &[u8]) -> usize {
 }
 
 // Of a read that was taken by arrival and one that was not, in either order and each beside itself, and of one that ends before its CRC does.
-fn reads<'a>(image: &'a [u8], bent: &'a [u8]) {
+fn reads<'a>(rt: &impl Print, image: &'a [u8], bent: &'a [u8]) -> io::Result<()> {
     if image.len() < 576 {
-        return;
+        return Ok(());
     }
-    text(b"reads:");
-    two_reads(image, bent, image);
-    two_reads(bent, image, image);
-    two_reads(image, image, image);
-    two_reads(bent, bent, image);
-    two_reads(&image[0..511], &image[0..512], image);
-    text(b"\n");
+    text(rt, b"reads:")?;
+    two_reads(rt, image, bent, image)?;
+    two_reads(rt, bent, image, image)?;
+    two_reads(rt, image, image, image)?;
+    two_reads(rt, bent, bent, image)?;
+    two_reads(rt, &image[0..511], &image[0..512], image)?;
+    text(rt, b"\n")
 }
 
 // Whether an image that is cut in two there gives the answers.
@@ -545,148 +555,148 @@ fn cuts(image: &[u8], edition: Edition) -> usize {
 }
 
 // Sixteen bytes taken, then offset 0 again.
-fn bench(image: &[u8]) {
-    text(b"bench");
+fn bench(rt: &impl Print, image: &[u8]) -> io::Result<()> {
+    text(rt, b"bench")?;
     if image.len() < 576 {
-        return;
+        return Ok(());
     }
-    let a = told(Pieces::of(Edition::Second).feed(0, &image[0..16]));
-    let b = told(a.feed(0, &image[0..16]));
-    number(b.count());
-    text(b"\n");
+    let a = told(rt, Pieces::of(Edition::Second).feed(0, &image[0..16]))?;
+    let b = told(rt, a.feed(0, &image[0..16]))?;
+    number(rt, b.count())?;
+    text(rt, b"\n")
 }
 
 // Bursts that come early are refused, and taken when their turn has come.
-fn order(image: &[u8]) {
-    text(b"order");
+fn order(rt: &impl Print, image: &[u8]) -> io::Result<()> {
+    text(rt, b"order")?;
     if image.len() < 576 {
-        return;
+        return Ok(());
     }
-    let early = told(Pieces::of(Edition::Second).feed(16, &image[16..32]));
-    let first = told(early.feed(0, &image[0..16]));
-    rest(first, image);
+    let early = told(rt, Pieces::of(Edition::Second).feed(16, &image[16..32]))?;
+    let first = told(rt, early.feed(0, &image[0..16]))?;
+    rest(rt, first, image)
 }
 
-fn rest(first: Pieces, image: &[u8]) {
+fn rest(rt: &impl Print, first: Pieces, image: &[u8]) -> io::Result<()> {
     if image.len() < 576 {
-        return;
+        return Ok(());
     }
-    let early = told(first.feed(32, &image[32..48]));
-    let second = told(early.feed(16, &image[16..32]));
-    let last = told(second.feed(32, &image[32..576]));
-    verdict(same(asked(last), whole(image, Edition::Second)));
+    let early = told(rt, first.feed(32, &image[32..48]))?;
+    let second = told(rt, early.feed(16, &image[16..32]))?;
+    let last = told(rt, second.feed(32, &image[32..576]))?;
+    verdict(rt, same(asked(last), whole(image, Edition::Second)))
 }
 
 // Up to 2,048 bytes: there an empty piece is taken, and one byte is not.
-fn longest(image: &[u8]) {
-    text(b"longest");
-    let a = told(Pieces::of(Edition::Second).feed(0, image));
+fn longest(rt: &impl Print, image: &[u8]) -> io::Result<()> {
+    text(rt, b"longest")?;
+    let a = told(rt, Pieces::of(Edition::Second).feed(0, image))?;
     if image.len() < 576 {
-        return;
+        return Ok(());
     }
-    let b = told(a.feed(576, image));
-    let c = told(b.feed(1152, image));
-    let d = told(c.feed(1728, &image[0..320]));
-    ends(d, image);
+    let b = told(rt, a.feed(576, image))?;
+    let c = told(rt, b.feed(1152, image))?;
+    let d = told(rt, c.feed(1728, &image[0..320]))?;
+    ends(rt, d, image)
 }
 
-fn ends(full: Pieces, image: &[u8]) {
+fn ends(rt: &impl Print, full: Pieces, image: &[u8]) -> io::Result<()> {
     if image.len() < 576 {
-        return;
+        return Ok(());
     }
-    let empty = told(full.feed(2048, &image[0..0]));
-    let past = told(empty.feed(2048, &image[0..1]));
-    verdict(same(asked(past), whole(image, Edition::Second)));
+    let empty = told(rt, full.feed(2048, &image[0..0]))?;
+    let past = told(rt, empty.feed(2048, &image[0..1]))?;
+    verdict(rt, same(asked(past), whole(image, Edition::Second)))
 }
 
 // An image that is still short answers as a short image.
-fn short(image: &[u8]) {
-    text(b"short");
+fn short(rt: &impl Print, image: &[u8]) -> io::Result<()> {
+    text(rt, b"short")?;
     if image.len() < 576 {
-        return;
+        return Ok(());
     }
     let part = &image[0..100];
-    let a = told(Pieces::of(Edition::Second).feed(0, part));
-    verdict(same(asked(a), whole(part, Edition::Second)));
+    let a = told(rt, Pieces::of(Edition::Second).feed(0, part))?;
+    verdict(rt, same(asked(a), whole(part, Edition::Second)))
 }
 
 // What the image is like: its findings, and how many bytes would hide a shift.
-fn about(image: &[u8]) {
+fn about(rt: &impl Print, image: &[u8]) -> io::Result<()> {
     let linted = rules::lint_image(image, Edition::Second);
     let found = linted.findings;
-    text(b"image: codes");
-    codes(found);
-    text(b", neighbours alike");
-    number(alike(image, 1));
-    text(b", sixteen apart alike");
-    number(alike(image, 16));
-    text(b"\nblock: refused in the strict mode with");
+    text(rt, b"image: codes")?;
+    codes(rt, found)?;
+    text(rt, b", neighbours alike")?;
+    number(rt, alike(image, 1))?;
+    text(rt, b", sixteen apart alike")?;
+    number(rt, alike(image, 16))?;
+    text(rt, b"\nblock: refused in the strict mode with")?;
     let answers = whole(image, Edition::Second);
     let strict = answers.strict;
-    number(strict[0] as usize);
-    text(b", bytes of its part number");
+    number(rt, strict[0] as usize)?;
+    text(rt, b", bytes of its part number")?;
     let part = answers.part;
-    number(part.len);
-    text(b"\ncrc: of nine digits");
-    number(crc::crc16(b"123456789") as usize);
-    text(b", the image's is refused");
+    number(rt, part.len)?;
+    text(rt, b"\ncrc: of nine digits")?;
+    number(rt, crc::crc16(b"123456789") as usize)?;
+    text(rt, b", the image's is refused")?;
     let crc = answers.crc;
-    number(crc[0] as usize);
-    text(b", fits");
-    number(crc[3] as usize);
-    text(b"\n");
+    number(rt, crc[0] as usize)?;
+    text(rt, b", fits")?;
+    number(rt, crc[3] as usize)?;
+    text(rt, b"\n")
 }
 
-fn run(image: &[u8]) {
-    about(image);
-    bench(image);
-    text(b"cuts");
-    number(cuts(image, Edition::Second));
-    text(b"\n");
-    order(image);
-    longest(image);
-    short(image);
+fn run(rt: &impl Print, image: &[u8]) -> io::Result<()> {
+    about(rt, image)?;
+    bench(rt, image)?;
+    text(rt, b"cuts")?;
+    number(rt, cuts(image, Edition::Second))?;
+    text(rt, b"\n")?;
+    order(rt, image)?;
+    longest(rt, image)?;
+    short(rt, image)
 }
 
 // The findings of an image under an edition, and how many of its cuts answer as it does.
-fn under(image: &[u8], edition: Edition) {
+fn under(rt: &impl Print, image: &[u8], edition: Edition) -> io::Result<()> {
     let linted = rules::lint_image(image, edition);
     let found = linted.findings;
-    codes(found);
-    text(b", cuts");
-    number(cuts(image, edition));
-    text(b"\n");
+    codes(rt, found)?;
+    text(rt, b", cuts")?;
+    number(rt, cuts(image, edition))?;
+    text(rt, b"\n")
 }
 
 // A state that is made by an edition's number answers under that edition, and under edition 2 where the number is none.
-fn by_number(image: &[u8], n: u32, edition: Edition) {
-    text(b"fresh");
-    number(n as usize);
-    text(b":");
-    let fed = told(Pieces::fresh(n)).feed(0, image);
+fn by_number(rt: &impl Print, image: &[u8], n: u32, edition: Edition) -> io::Result<()> {
+    text(rt, b"fresh")?;
+    number(rt, n as usize)?;
+    text(rt, b":")?;
+    let fed = told(rt, Pieces::fresh(n))?.feed(0, image);
     let state = fed.state;
-    verdict(same(asked(state), whole(image, edition)));
+    verdict(rt, same(asked(state), whole(image, edition)))
 }
 
 // The image with a cycle time of 250, and so a rate of 8000, which is on the second ladder alone.
-fn editions(mut image: [u8; 576]) {
+fn editions(rt: &impl Print, mut image: [u8; 576]) -> io::Result<()> {
     image[20] = 250;
     image[21] = 0;
-    text(b"edition 1: codes");
-    under(&image, Edition::First);
-    text(b"edition 2: codes");
-    under(&image, Edition::Second);
-    by_number(&image, 1, Edition::First);
-    by_number(&image, 2, Edition::Second);
-    by_number(&image, 3, Edition::Second);
+    text(rt, b"edition 1: codes")?;
+    under(rt, &image, Edition::First)?;
+    text(rt, b"edition 2: codes")?;
+    under(rt, &image, Edition::Second)?;
+    by_number(rt, &image, 1, Edition::First)?;
+    by_number(rt, &image, 2, Edition::Second)?;
+    by_number(rt, &image, 3, Edition::Second)
 }
 
-fn main() {
+fn main(rt: HostRuntime) -> io::Result<()> {
     let bytes = sample();
-    run(&bytes);
-    certificates(bytes, 0);
-    certificates(bytes, 64);
+    run(&rt, &bytes)?;
+    certificates(&rt, bytes, 0)?;
+    certificates(&rt, bytes, 64)?;
     let bent = by_arrival(bytes, 64);
-    reads(&bytes, &bent);
-    editions(bytes);
+    reads(&rt, &bytes, &bent)?;
+    editions(&rt, bytes)
 }

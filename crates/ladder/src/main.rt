@@ -1,6 +1,8 @@
 // Holds the rule of the ladder to tables of its rates, nine for edition 1 and fifteen for edition 2, and writes what came out: for every rate from
 // 0 to 20,000, and for as many at the edges of 16, 31 and 32 bits. The rule is asked through a rated profile, which alone takes any rate. No other
 // code has the tables; that the search of them answers as the rule's definition does, for every edition and rate, is proved.
+#![tactic(auto)]
+
 ghost use Rattle.std.specs.Prelude.{◌≡◌, ◌+◌, ◌≤◌};
 ghost use Rattle.rules.specs.Rules.{on_ladder};
 ghost use Rattle.ladder.specs.Search.{has};
@@ -9,6 +11,7 @@ use decoders::timing::Picoseconds;
 use findings::{Finding, Findings, Severity};
 use printing::{number, text};
 use rules::{Edition, RatedTimings};
+use std::io;
 
 // The data rates in MT/s of the first JESD79-5.
 const FIRST_DDR5_RATES: [u32; 9] = [3200, 3600, 4000, 4400, 4800, 5200, 5600, 6000, 6400];
@@ -22,7 +25,7 @@ const STANDARD_DDR5_RATES: [u32; 15] = [
 const MORE: u32 = 20000;
 
 // Of a run of rates: how many the table has, how many the rule found fault with, and of how many the two say different things.
-#[derive(Drop)]
+#[derive(Clone, Copy)]
 struct Counts {
     listed: u32,
     found: u32,
@@ -128,33 +131,33 @@ fn compared(first: u32, edition: Edition) -> Counts
     }
 }
 
-fn told(first: u32, edition: Edition)
+fn told(rt: &impl Print, first: u32, edition: Edition) -> io::Result<()>
     requires { first ≤ 4294947295 }
 {
     let counts = compared(first, edition);
-    text(b" rates");
-    number(first as usize);
-    text(b" to");
-    number((first + MORE) as usize);
-    text(b": in the table");
-    number(counts.listed as usize);
-    text(b", findings");
-    number(counts.found as usize);
-    text(b", differences");
-    number(counts.differ as usize);
-    text(b"\n");
+    text(rt, b" rates")?;
+    number(rt, first as usize)?;
+    text(rt, b" to")?;
+    number(rt, (first + MORE) as usize)?;
+    text(rt, b": in the table")?;
+    number(rt, counts.listed as usize)?;
+    text(rt, b", findings")?;
+    number(rt, counts.found as usize)?;
+    text(rt, b", differences")?;
+    number(rt, counts.differ as usize)?;
+    text(rt, b"\n")
 }
 
-fn run(edition: Edition) {
-    told(0, edition);
-    told(55536, edition);
-    told(2147473648, edition);
-    told(4294947295, edition);
+fn run(rt: &impl Print, edition: Edition) -> io::Result<()> {
+    told(rt, 0, edition)?;
+    told(rt, 55536, edition)?;
+    told(rt, 2147473648, edition)?;
+    told(rt, 4294947295, edition)
 }
 
-fn main() {
-    text(b"edition 1\n");
-    run(Edition::First);
-    text(b"edition 2\n");
-    run(Edition::Second);
+fn main(rt: HostRuntime) -> io::Result<()> {
+    text(&rt, b"edition 1\n")?;
+    run(&rt, Edition::First)?;
+    text(&rt, b"edition 2\n")?;
+    run(&rt, Edition::Second)
 }

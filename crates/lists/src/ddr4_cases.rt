@@ -8,8 +8,9 @@ use ddr4::{Ddr4, Ddr4Answer};
 use ddr4rules::Ddr4LintAnswer;
 use findings::Finding;
 use printing::{number, refused, text};
+use std::io;
 
-#[derive(Drop)]
+#[derive(Clone, Copy)]
 struct AfterDdr4 {
     list: [Finding; 17],
     answer: Ddr4LintAnswer,
@@ -23,26 +24,27 @@ fn ddr4_into(image: &[u8], mut list: [Finding; 17], len: usize) -> AfterDdr4
     AfterDdr4 { list, answer }
 }
 
-fn lint_case(label: &[u8], image: &[u8], len: usize)
+fn lint_case(rt: &impl Print, label: &[u8], image: &[u8], len: usize) -> io::Result<()>
     requires { len ≤ 17 }
 {
-    places(label, len);
+    places(rt, label, len)?;
     let after = ddr4_into(image, marked(), len);
     let list = after.list;
     let answer = after.answer;
     match answer {
         Ddr4LintAnswer::Listed(records) => {
-            text(b" count");
-            number(records.count);
+            text(rt, b" count")?;
+            number(rt, records.count)?;
             let whole = ddr4rules::lint_ddr4_image(image);
             let found = whole.findings;
-            rest(list, found);
+            rest(rt, list, found)?;
         }
         Ddr4LintAnswer::Refused(why) => {
-            refused(why);
-            left(list, 0);
+            refused(rt, why)?;
+            left(rt, list, 0)?;
         }
     }
+    Ok(())
 }
 
 // An image without findings. No two of its times are the same, byte 27 has the halves 2 and 1, and bits beside the codes are set, so that
@@ -108,120 +110,132 @@ fn uniform(density: u8, width: u8, units: u8, halves: u8, fine: u8) -> [u8; 128]
     image
 }
 
-fn linting(image: [u8; 128]) {
-    lint_case(b"ddr4 lint,", &image, 0);
-    lint_case(b"ddr4 lint,", &image, 14);
-    lint_case(b"ddr4 lint,", &image, 15);
-    lint_case(b"ddr4 lint,", &image, 17);
+fn linting(rt: &impl Print, image: [u8; 128]) -> io::Result<()> {
+    lint_case(rt, b"ddr4 lint,", &image, 0)?;
+    lint_case(rt, b"ddr4 lint,", &image, 14)?;
+    lint_case(rt, b"ddr4 lint,", &image, 15)?;
+    lint_case(rt, b"ddr4 lint,", &image, 17)?;
     let after = ddr4_into(&image, marked(), 15);
     let list = after.list;
-    show(list, 3);
+    show(rt, list, 3)
 }
 
-fn linting_short(image: [u8; 128]) {
-    lint_case(b"ddr4 lint of 126 bytes,", &image[0..126], 15);
-    lint_case(b"ddr4 lint of 124 bytes,", &image[0..124], 14);
-    lint_case(b"ddr4 lint of 124 bytes,", &image[0..124], 15);
-    lint_case(b"ddr4 lint of no bytes,", &image[0..0], 17);
+fn linting_short(rt: &impl Print, image: [u8; 128]) -> io::Result<()> {
+    lint_case(rt, b"ddr4 lint of 126 bytes,", &image[0..126], 15)?;
+    lint_case(rt, b"ddr4 lint of 124 bytes,", &image[0..124], 14)?;
+    lint_case(rt, b"ddr4 lint of 124 bytes,", &image[0..124], 15)?;
+    lint_case(rt, b"ddr4 lint of no bytes,", &image[0..0], 17)
 }
 
 // An image that would have all three findings, refused for one code.
-fn code_case(label: &[u8], at: usize, byte: u8)
+fn code_case(rt: &impl Print, label: &[u8], at: usize, byte: u8) -> io::Result<()>
     requires { at < 128 }
 {
     let mut image = broken();
     image[at] = byte;
-    lint_case(label, &image, 15);
+    lint_case(rt, label, &image, 15)
 }
 
 // The same for a time of -1 ps: no units, and a fine byte of -1.
-fn time_case(label: &[u8], units: usize, fine: usize)
+fn time_case(rt: &impl Print, label: &[u8], units: usize, fine: usize) -> io::Result<()>
     requires { (units < 128) × (fine < 128) }
 {
     let mut image = broken();
     image[units] = 0;
     image[fine] = 0xFF;
-    lint_case(label, &image, 15);
+    lint_case(rt, label, &image, 15)
 }
 
-fn refusing() {
-    code_case(b"ddr4 lint of timebase 1,", 17, 1);
-    code_case(b"ddr4 lint of density code 8,", 4, 8);
-    code_case(b"ddr4 lint of I/O code 4,", 12, 4);
-    code_case(b"ddr4 lint of bus code 4,", 13, 4);
-    time_case(b"ddr4 lint of tCK below zero,", 18, 125);
-    time_case(b"ddr4 lint of tAA below zero,", 24, 123);
-    time_case(b"ddr4 lint of tRCD below zero,", 25, 122);
-    time_case(b"ddr4 lint of tRP below zero,", 26, 121);
-    time_case(b"ddr4 lint of tRC below zero,", 29, 120);
+fn refusing(rt: &impl Print) -> io::Result<()> {
+    code_case(rt, b"ddr4 lint of timebase 1,", 17, 1)?;
+    code_case(rt, b"ddr4 lint of density code 8,", 4, 8)?;
+    code_case(rt, b"ddr4 lint of I/O code 4,", 12, 4)?;
+    code_case(rt, b"ddr4 lint of bus code 4,", 13, 4)?;
+    time_case(rt, b"ddr4 lint of tCK below zero,", 18, 125)?;
+    time_case(rt, b"ddr4 lint of tAA below zero,", 24, 123)?;
+    time_case(rt, b"ddr4 lint of tRCD below zero,", 25, 122)?;
+    time_case(rt, b"ddr4 lint of tRP below zero,", 26, 121)?;
+    time_case(rt, b"ddr4 lint of tRC below zero,", 29, 120)
 }
 
-fn told(name: &[u8], n: u32) {
-    text(name);
-    number(n as usize);
+fn told(rt: &impl Print, name: &[u8], n: u32) -> io::Result<()> {
+    text(rt, name)?;
+    number(rt, n as usize)
 }
 
-fn told_record(d: Ddr4) {
-    told(b" Mb", d.megabits);
-    told(b" I/O", d.io_width_bits as u32);
-    told(b" bus", d.bus_width_bits as u32);
-    told(b" tCK", d.tck);
-    told(b" tAA", d.taa);
-    told(b" tRCD", d.trcd);
-    told(b" tRP", d.trp);
-    told(b" tRAS", d.tras);
-    told(b" tRC", d.trc);
+fn told_record(rt: &impl Print, d: Ddr4) -> io::Result<()> {
+    told(rt, b" Mb", d.megabits)?;
+    told(rt, b" I/O", d.io_width_bits as u32)?;
+    told(rt, b" bus", d.bus_width_bits as u32)?;
+    told(rt, b" tCK", d.tck)?;
+    told(rt, b" tAA", d.taa)?;
+    told(rt, b" tRCD", d.trcd)?;
+    told(rt, b" tRP", d.trp)?;
+    told(rt, b" tRAS", d.tras)?;
+    told(rt, b" tRC", d.trc)
 }
 
-fn record_case(label: &[u8], image: [u8; 128]) {
-    text(label);
+fn record_case(rt: &impl Print, label: &[u8], image: [u8; 128]) -> io::Result<()> {
+    text(rt, label)?;
     match ddr4::decode_ddr4(&image) {
-        Ddr4Answer::Decoded(d) => told_record(d),
-        Ddr4Answer::Refused(why) => refused(why),
+        Ddr4Answer::Decoded(d) => told_record(rt, d)?,
+        Ddr4Answer::Refused(why) => refused(rt, why)?,
     }
-    text(b"\n");
+    text(rt, b"\n")
 }
 
-fn megabits_case(code: u8) {
+fn megabits_case(rt: &impl Print, code: u8) -> io::Result<()> {
     let mut image = sound();
     image[4] = code;
     match ddr4::decode_ddr4(&image) {
-        Ddr4Answer::Decoded(d) => number(d.megabits as usize),
-        Ddr4Answer::Refused(why) => refused(why),
+        Ddr4Answer::Decoded(d) => number(rt, d.megabits as usize),
+        Ddr4Answer::Refused(why) => refused(rt, why),
     }
 }
 
 // The megabits of every density code.
-fn densities() {
-    text(b"decode_ddr4, density codes 0 to 7:");
+fn densities(rt: &impl Print) -> io::Result<()> {
+    text(rt, b"decode_ddr4, density codes 0 to 7:")?;
     let mut code: u8 = 0;
     while code < 8 {
-        megabits_case(code);
+        megabits_case(rt, code)?;
         code += 1;
     }
-    text(b"\n");
+    text(rt, b"\n")
 }
 
-fn decoding() {
-    record_case(b"decode_ddr4, halves 2 and 1:", sound());
-    record_case(b"decode_ddr4, equal times:", level());
-    record_case(b"decode_ddr4, largest:", uniform(7, 3, 255, 0xFF, 127));
-    record_case(b"decode_ddr4, high half 15:", uniform(7, 3, 255, 0xF0, 127));
-    record_case(b"decode_ddr4, low half 15:", uniform(7, 3, 255, 0x0F, 127));
-    record_case(b"decode_ddr4, fine bytes -128:", uniform(0, 2, 2, 0, 0x80));
-    record_case(b"decode_ddr4, least:", uniform(0, 0, 0, 0, 0));
-    densities();
+fn decoding(rt: &impl Print) -> io::Result<()> {
+    record_case(rt, b"decode_ddr4, halves 2 and 1:", sound())?;
+    record_case(rt, b"decode_ddr4, equal times:", level())?;
+    record_case(rt, b"decode_ddr4, largest:", uniform(7, 3, 255, 0xFF, 127))?;
+    record_case(
+        rt,
+        b"decode_ddr4, high half 15:",
+        uniform(7, 3, 255, 0xF0, 127),
+    )?;
+    record_case(
+        rt,
+        b"decode_ddr4, low half 15:",
+        uniform(7, 3, 255, 0x0F, 127),
+    )?;
+    record_case(
+        rt,
+        b"decode_ddr4, fine bytes -128:",
+        uniform(0, 2, 2, 0, 0x80),
+    )?;
+    record_case(rt, b"decode_ddr4, least:", uniform(0, 0, 0, 0, 0))?;
+    densities(rt)
 }
 
-pub(crate) fn run(ddr5: [u8; 512]) {
-    linting(broken());
-    linting_short(broken());
+pub(crate) fn run(rt: &impl Print, ddr5: [u8; 512]) -> io::Result<()> {
+    linting(rt, broken())?;
+    linting_short(rt, broken())?;
     let good = sound();
     let equal = level();
-    lint_case(b"ddr4 lint of a sound image,", &good, 15);
-    lint_case(b"ddr4 lint of equal times,", &equal, 17);
-    lint_case(b"ddr4 lint of a DDR5 image,", &ddr5, 14);
-    lint_case(b"ddr4 lint of a DDR5 image,", &ddr5, 15);
-    refusing();
-    decoding();
+    lint_case(rt, b"ddr4 lint of a sound image,", &good, 15)?;
+    lint_case(rt, b"ddr4 lint of equal times,", &equal, 17)?;
+    lint_case(rt, b"ddr4 lint of a DDR5 image,", &ddr5, 14)?;
+    lint_case(rt, b"ddr4 lint of a DDR5 image,", &ddr5, 15)?;
+    refusing(rt)?;
+    decoding(rt)
 }

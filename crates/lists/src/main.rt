@@ -4,6 +4,8 @@
 //
 // A list is the first `len` of seventeen places, which all hold the finding `mark` before the call. The six functions that lend one are
 // straight lines, proved by hand: each hands the array and the answer back by value, so that the rest of the program is on values alone.
+#![tactic(auto)]
+
 ghost use Rattle.std.specs.Prelude.{◌≡◌, ◌≤◌, ◌++◌, length, take, drop};
 ghost use Rattle.reading.specs.Lent.{listed};
 ghost use Rattle.rules.specs.Lint.{lint_answer_said, lint_answer_of, findings_of, rated_said, rated_of, rated_findings};
@@ -17,23 +19,24 @@ use pieces::{FeedAnswer, Pieces};
 use printing::{number, refused, text, yes};
 use report::{ReadAnswer, WriteAnswer};
 use rules::{Edition, EditionAnswer, LintAnswer, RatedAnswer, RatedTimings};
+use std::io;
 
 mod ddr4_cases;
 
 // What a call answered, and what then stands in the seventeen places.
-#[derive(Drop)]
+#[derive(Clone, Copy)]
 struct AfterLint {
     list: [Finding; 17],
     answer: LintAnswer,
 }
 
-#[derive(Drop)]
+#[derive(Clone, Copy)]
 struct AfterRead {
     list: [Finding; 17],
     answer: ReadAnswer,
 }
 
-#[derive(Drop)]
+#[derive(Clone, Copy)]
 struct AfterRated {
     list: [Finding; 17],
     answer: RatedAnswer,
@@ -131,104 +134,114 @@ fn holds(list: [Finding; 17], found: Findings) -> bool {
 }
 
 // A finding's line: code, severity (0 error, 1 warning, 2 info), sub, numbers.
-fn show_one(f: Finding) {
+fn show_one(rt: &impl Print, f: Finding) -> io::Result<()> {
     let severity = f.severity;
-    text(b" ");
-    number(f.code as usize);
-    number(severity.number() as usize);
-    number(f.sub as usize);
-    number(f.first as usize);
-    number(f.second as usize);
-    number(f.third as usize);
-    text(b"\n");
+    text(rt, b" ")?;
+    number(rt, f.code as usize)?;
+    number(rt, severity.number() as usize)?;
+    number(rt, f.sub as usize)?;
+    number(rt, f.first as usize)?;
+    number(rt, f.second as usize)?;
+    number(rt, f.third as usize)?;
+    text(rt, b"\n")
 }
 
 // A line for each of the first places.
-fn show(list: [Finding; 17], count: usize) {
+fn show(rt: &impl Print, list: [Finding; 17], count: usize) -> io::Result<()> {
     let mut i: usize = 0;
     while i < 17 {
         if i < count {
-            show_one(list[i]);
+            show_one(rt, list[i])?;
         }
         i += 1;
     }
+    Ok(())
 }
 
 // A line for the last of the first places.
-fn show_last(list: [Finding; 17], count: usize) {
+fn show_last(rt: &impl Print, list: [Finding; 17], count: usize) -> io::Result<()> {
     if 0 < count {
         if count <= 17 {
-            show_one(list[count - 1]);
+            show_one(rt, list[count - 1])?;
         }
     }
+    Ok(())
 }
 
-fn places(label: &[u8], len: usize) {
-    text(label);
-    number(len);
-    text(b" places:");
+fn places(rt: &impl Print, label: &[u8], len: usize) -> io::Result<()> {
+    text(rt, label)?;
+    number(rt, len)?;
+    text(rt, b" places:")
 }
 
 // The end of a line: what is known by value, and the places that are not in use.
-fn rest(list: [Finding; 17], found: Findings) {
-    text(b", as by value");
-    yes(holds(list, found));
-    left(list, found.count);
+fn rest(rt: &impl Print, list: [Finding; 17], found: Findings) -> io::Result<()> {
+    text(rt, b", as by value")?;
+    yes(rt, holds(list, found))?;
+    left(rt, list, found.count)
 }
 
-fn left(list: [Finding; 17], from: usize) {
-    kept(stayed(list, from), 17, from);
+fn left(rt: &impl Print, list: [Finding; 17], from: usize) -> io::Result<()> {
+    kept(rt, stayed(list, from), 17, from)
 }
 
 // How many of those behind the first `from` are as they were.
-fn kept(stayed: usize, all: usize, from: usize) {
-    text(b", stayed");
-    number(stayed);
+fn kept(rt: &impl Print, stayed: usize, all: usize, from: usize) -> io::Result<()> {
+    text(rt, b", stayed")?;
+    number(rt, stayed)?;
     if from <= all {
-        text(b" of");
-        number(all - from);
+        text(rt, b" of")?;
+        number(rt, all - from)?;
     }
-    text(b"\n");
+    text(rt, b"\n")
 }
 
-fn told_lint(after: AfterLint, found: Findings) {
+fn told_lint(rt: &impl Print, after: AfterLint, found: Findings) -> io::Result<()> {
     let list = after.list;
     let answer = after.answer;
     match answer {
         LintAnswer::Listed(records) => {
             let identity = records.identity;
             let timings = records.timings;
-            text(b" flags");
-            number(report::flags_of(identity, timings) as usize);
-            text(b" count");
-            number(records.count);
-            rest(list, found);
+            text(rt, b" flags")?;
+            number(rt, report::flags_of(identity, timings) as usize)?;
+            text(rt, b" count")?;
+            number(rt, records.count)?;
+            rest(rt, list, found)?;
         }
         LintAnswer::Refused(why) => {
-            refused(why);
-            left(list, 0);
+            refused(rt, why)?;
+            left(rt, list, 0)?;
         }
     }
+    Ok(())
 }
 
-fn lint_case(label: &[u8], image: &[u8], edition: Edition, len: usize)
+fn lint_case(
+    rt: &impl Print,
+    label: &[u8],
+    image: &[u8],
+    edition: Edition,
+    len: usize,
+) -> io::Result<()>
     requires { len ≤ 17 }
 {
-    places(label, len);
+    places(rt, label, len)?;
     let whole = rules::lint_image(image, edition);
     let found = whole.findings;
-    told_lint(lint_into(image, edition, marked(), len), found);
+    told_lint(rt, lint_into(image, edition, marked(), len), found)
 }
 
 // The last finding of an image.
-fn lint_last(image: &[u8], edition: Edition) {
+fn lint_last(rt: &impl Print, image: &[u8], edition: Edition) -> io::Result<()> {
     let after = lint_into(image, edition, marked(), 15);
     let list = after.list;
     let answer = after.answer;
     match answer {
-        LintAnswer::Listed(records) => show_last(list, records.count),
+        LintAnswer::Listed(records) => show_last(rt, list, records.count)?,
         LintAnswer::Refused(_) => {}
     }
+    Ok(())
 }
 
 // A state that holds the image, fed in two pieces.
@@ -239,57 +252,65 @@ fn fed(image: [u8; 512], edition: Edition) -> Pieces {
     second.state
 }
 
-fn pieces_case(label: &[u8], state: Pieces, len: usize)
+fn pieces_case(rt: &impl Print, label: &[u8], state: Pieces, len: usize) -> io::Result<()>
     requires { len ≤ 17 }
 {
-    places(label, len);
+    places(rt, label, len)?;
     let whole = state.lint_image();
     let found = whole.findings;
-    told_lint(pieces_into(state, marked(), len), found);
+    told_lint(rt, pieces_into(state, marked(), len), found)
 }
 
-fn rated_case(label: &[u8], profile: RatedTimings, edition: Edition, len: usize)
+fn rated_case(
+    rt: &impl Print,
+    label: &[u8],
+    profile: RatedTimings,
+    edition: Edition,
+    len: usize,
+) -> io::Result<()>
     requires { len ≤ 17 }
 {
-    places(label, len);
+    places(rt, label, len)?;
     let after = rated_into(profile, edition, marked(), len);
     let list = after.list;
     let answer = after.answer;
     match answer {
         RatedAnswer::Listed(count) => {
-            text(b" count");
-            number(count);
-            rest(list, rules::rated_findings(profile, edition));
+            text(rt, b" count")?;
+            number(rt, count)?;
+            rest(rt, list, rules::rated_findings(profile, edition))?;
         }
         RatedAnswer::Refused(why) => {
-            refused(why);
-            left(list, 0);
+            refused(rt, why)?;
+            left(rt, list, 0)?;
         }
     }
+    Ok(())
 }
 
-fn read_case(label: &[u8], bytes: &[u8], len: usize)
+fn read_case(rt: &impl Print, label: &[u8], bytes: &[u8], len: usize) -> io::Result<()>
     requires { len ≤ 17 }
 {
-    places(label, len);
+    places(rt, label, len)?;
     let after = read_into(bytes, marked(), len);
     let list = after.list;
     let answer = after.answer;
     match answer {
         ReadAnswer::Report { flags, count } => {
-            text(b" flags");
-            number(flags as usize);
-            text(b" count");
-            number(count);
+            text(rt, b" flags")?;
+            number(rt, flags as usize)?;
+            text(rt, b" count")?;
+            number(rt, count)?;
             let reading = report::read_findings(bytes);
             let found = reading.findings;
-            rest(list, found);
+            rest(rt, list, found)?;
         }
         ReadAnswer::Refused(why) => {
-            refused(why);
-            left(list, 0);
+            refused(rt, why)?;
+            left(rt, list, 0)?;
         }
     }
+    Ok(())
 }
 
 // Whether the first n places of two lists hold the same.
@@ -322,34 +343,41 @@ fn untouched(out: &[u8], from: usize) -> usize {
 }
 
 // What was written, read into a list again.
-fn back(list: [Finding; 17], len: usize, out: &[u8]) {
-    text(b", read back");
+fn back(rt: &impl Print, list: [Finding; 17], len: usize, out: &[u8]) -> io::Result<()> {
+    text(rt, b", read back")?;
     let after = read_into(out, marked(), 15);
     let again = after.list;
-    yes(same_places(list, again, len));
+    yes(rt, same_places(list, again, len))
 }
 
 // Writes so many findings into a buffer that is all 170.
-fn write_case(label: &[u8], list: [Finding; 17], len: usize, out: &mut [u8])
+fn write_case(
+    rt: &impl Print,
+    label: &[u8],
+    list: [Finding; 17],
+    len: usize,
+    out: &mut [u8],
+) -> io::Result<()>
     requires { len ≤ 17 }
 {
-    text(label);
-    number(len);
-    text(b" of the list into");
-    number(out.len());
-    text(b" bytes:");
+    text(rt, label)?;
+    number(rt, len)?;
+    text(rt, b" of the list into")?;
+    number(rt, out.len())?;
+    text(rt, b" bytes:")?;
     match write_from(3, list, len, out) {
         WriteAnswer::Bytes(n) => {
-            text(b" bytes");
-            number(n);
-            back(list, len, out);
-            kept(untouched(out, n), out.len(), n);
+            text(rt, b" bytes")?;
+            number(rt, n)?;
+            back(rt, list, len, out)?;
+            kept(rt, untouched(out, n), out.len(), n)?;
         }
         WriteAnswer::Refused(why) => {
-            refused(why);
-            kept(untouched(out, 0), out.len(), 0);
+            refused(rt, why)?;
+            kept(rt, untouched(out, 0), out.len(), 0)?;
         }
     }
+    Ok(())
 }
 
 // A DDR5 image with a finding of every rule that an image can break, fifteen: the seven regions, the device count (bus 8, I/O 16), and
@@ -403,192 +431,204 @@ fn profile(data_rate_mt_s: u32) -> RatedTimings {
     }
 }
 
-fn linting(image: [u8; 512]) {
-    lint_case(b"lint,", &image, Edition::Second, 0);
-    lint_case(b"lint,", &image, Edition::Second, 14);
-    lint_case(b"lint,", &image, Edition::Second, 15);
-    lint_case(b"lint,", &image, Edition::Second, 17);
-    lint_case(b"lint of 236 bytes,", &image[0..236], Edition::Second, 15);
-    lint_case(b"lint of 16 bytes,", &image[0..16], Edition::Second, 17);
-    lint_case(b"lint of no bytes,", &image[0..0], Edition::Second, 14);
-    lint_case(b"lint of no bytes,", &image[0..0], Edition::Second, 15);
+fn linting(rt: &impl Print, image: [u8; 512]) -> io::Result<()> {
+    lint_case(rt, b"lint,", &image, Edition::Second, 0)?;
+    lint_case(rt, b"lint,", &image, Edition::Second, 14)?;
+    lint_case(rt, b"lint,", &image, Edition::Second, 15)?;
+    lint_case(rt, b"lint,", &image, Edition::Second, 17)?;
+    lint_case(
+        rt,
+        b"lint of 236 bytes,",
+        &image[0..236],
+        Edition::Second,
+        15,
+    )?;
+    lint_case(rt, b"lint of 16 bytes,", &image[0..16], Edition::Second, 17)?;
+    lint_case(rt, b"lint of no bytes,", &image[0..0], Edition::Second, 14)?;
+    lint_case(rt, b"lint of no bytes,", &image[0..0], Edition::Second, 15)
 }
 
 // Edition 1 has one finding more, the rate's, behind the others.
-fn linting_fast(image: [u8; 512]) {
+fn linting_fast(rt: &impl Print, image: [u8; 512]) -> io::Result<()> {
     let first = b"lint of 8000 MT/s under edition 1,";
     let second = b"lint of 8000 MT/s under edition 2,";
-    lint_case(first, &image, Edition::First, 14);
-    lint_case(first, &image, Edition::First, 15);
-    lint_last(&image, Edition::First);
-    lint_case(second, &image, Edition::Second, 14);
-    lint_case(second, &image, Edition::Second, 15);
-    lint_last(&image, Edition::Second);
+    lint_case(rt, first, &image, Edition::First, 14)?;
+    lint_case(rt, first, &image, Edition::First, 15)?;
+    lint_last(rt, &image, Edition::First)?;
+    lint_case(rt, second, &image, Edition::Second, 14)?;
+    lint_case(rt, second, &image, Edition::Second, 15)?;
+    lint_last(rt, &image, Edition::Second)
 }
 
-fn feeding(image: [u8; 512]) {
-    pieces_case(b"Pieces::lint,", fed(image, Edition::Second), 0);
-    pieces_case(b"Pieces::lint,", fed(image, Edition::Second), 14);
-    pieces_case(b"Pieces::lint,", fed(image, Edition::Second), 15);
-    pieces_case(b"Pieces::lint,", fed(image, Edition::Second), 17);
+fn feeding(rt: &impl Print, image: [u8; 512]) -> io::Result<()> {
+    pieces_case(rt, b"Pieces::lint,", fed(image, Edition::Second), 0)?;
+    pieces_case(rt, b"Pieces::lint,", fed(image, Edition::Second), 14)?;
+    pieces_case(rt, b"Pieces::lint,", fed(image, Edition::Second), 15)?;
+    pieces_case(rt, b"Pieces::lint,", fed(image, Edition::Second), 17)?;
     pieces_case(
+        rt,
         b"Pieces::lint of a fresh state,",
         Pieces::of(Edition::Second),
         14,
-    );
+    )?;
     pieces_case(
+        rt,
         b"Pieces::lint of a fresh state,",
         Pieces::of(Edition::Second),
         15,
-    );
+    )
 }
 
 // A state of edition 1 is held to the linter's answer by value, not to its own.
-fn feeding_fast(image: [u8; 512]) {
-    places(b"Pieces::lint of 8000 MT/s under edition 1,", 15);
+fn feeding_fast(rt: &impl Print, image: [u8; 512]) -> io::Result<()> {
+    places(rt, b"Pieces::lint of 8000 MT/s under edition 1,", 15)?;
     let whole = rules::lint_image(&image, Edition::First);
     let found = whole.findings;
-    told_lint(pieces_into(fed(image, Edition::First), marked(), 15), found);
+    told_lint(
+        rt,
+        pieces_into(fed(image, Edition::First), marked(), 15),
+        found,
+    )
 }
 
-fn rating() {
+fn rating(rt: &impl Print) -> io::Result<()> {
     let label = b"check_rated_profile,";
-    rated_case(label, profile(5000), Edition::Second, 0);
-    rated_case(label, profile(5000), Edition::Second, 4);
-    rated_case(label, profile(5000), Edition::Second, 5);
-    rated_case(label, profile(5000), Edition::Second, 8);
+    rated_case(rt, label, profile(5000), Edition::Second, 0)?;
+    rated_case(rt, label, profile(5000), Edition::Second, 4)?;
+    rated_case(rt, label, profile(5000), Edition::Second, 5)?;
+    rated_case(rt, label, profile(5000), Edition::Second, 8)?;
     let after = rated_into(profile(5000), Edition::Second, marked(), 5);
     let list = after.list;
-    show(list, 5);
+    show(rt, list, 5)
 }
 
-fn rating_fast() {
+fn rating_fast(rt: &impl Print) -> io::Result<()> {
     let first = b"check_rated_profile of 8000 MT/s under edition 1,";
     let second = b"check_rated_profile of 8000 MT/s under edition 2,";
-    rated_case(first, profile(8000), Edition::First, 5);
-    rated_case(second, profile(8000), Edition::Second, 5);
+    rated_case(rt, first, profile(8000), Edition::First, 5)?;
+    rated_case(rt, second, profile(8000), Edition::Second, 5)
 }
 
-fn write_few(list: [Finding; 17]) {
+fn write_few(rt: &impl Print, list: [Finding; 17]) -> io::Result<()> {
     let mut none = [170u8; 5];
     let mut none_short = [170u8; 4];
     let mut two = [170u8; 33];
     let mut two_short = [170u8; 32];
-    write_case(b"write,", list, 0, &mut none);
-    write_case(b"write,", list, 0, &mut none_short);
-    write_case(b"write,", list, 2, &mut two);
-    write_case(b"write,", list, 2, &mut two_short);
+    write_case(rt, b"write,", list, 0, &mut none)?;
+    write_case(rt, b"write,", list, 0, &mut none_short)?;
+    write_case(rt, b"write,", list, 2, &mut two)?;
+    write_case(rt, b"write,", list, 2, &mut two_short)
 }
 
-fn write_most(list: [Finding; 17]) {
+fn write_most(rt: &impl Print, list: [Finding; 17]) -> io::Result<()> {
     let mut most = [170u8; 215];
     let mut most_short = [170u8; 214];
     let mut longer = [170u8; 230];
-    write_case(b"write,", list, 15, &mut most);
-    write_case(b"write,", list, 15, &mut most_short);
-    write_case(b"write,", list, 15, &mut longer);
+    write_case(rt, b"write,", list, 15, &mut most)?;
+    write_case(rt, b"write,", list, 15, &mut most_short)?;
+    write_case(rt, b"write,", list, 15, &mut longer)
 }
 
 // Sixteen and seventeen findings that are all the table's, and one that is not.
-fn write_refused(mut list: [Finding; 17]) {
+fn write_refused(rt: &impl Print, mut list: [Finding; 17]) -> io::Result<()> {
     list[15] = list[0];
     list[16] = list[1];
     let mut room = [170u8; 230];
     let mut short = [170u8; 4];
-    write_case(b"write,", list, 16, &mut room);
-    write_case(b"write,", list, 17, &mut room);
-    write_case(b"write,", list, 16, &mut short);
-    write_case(b"write code 77,", marked(), 1, &mut room);
+    write_case(rt, b"write,", list, 16, &mut room)?;
+    write_case(rt, b"write,", list, 17, &mut room)?;
+    write_case(rt, b"write,", list, 16, &mut short)?;
+    write_case(rt, b"write code 77,", marked(), 1, &mut room)
 }
 
-fn read_most(list: [Finding; 17]) {
+fn read_most(rt: &impl Print, list: [Finding; 17]) -> io::Result<()> {
     let mut most = [0u8; 215];
     write_from(3, list, 15, &mut most);
-    read_case(b"read 15 findings,", &most, 0);
-    read_case(b"read 15 findings,", &most, 14);
-    read_case(b"read 15 findings,", &most, 15);
-    read_case(b"read 15 findings,", &most, 17);
+    read_case(rt, b"read 15 findings,", &most, 0)?;
+    read_case(rt, b"read 15 findings,", &most, 14)?;
+    read_case(rt, b"read 15 findings,", &most, 15)?;
+    read_case(rt, b"read 15 findings,", &most, 17)
 }
 
-fn read_two(list: [Finding; 17]) {
+fn read_two(rt: &impl Print, list: [Finding; 17]) -> io::Result<()> {
     let mut two = [0u8; 33];
     write_from(2, list, 2, &mut two);
-    read_case(b"read 2 findings,", &two, 14);
-    read_case(b"read 2 findings,", &two, 15);
-    read_case(b"read 2 findings,", &two, 17);
+    read_case(rt, b"read 2 findings,", &two, 14)?;
+    read_case(rt, b"read 2 findings,", &two, 15)?;
+    read_case(rt, b"read 2 findings,", &two, 17)?;
     two[2] = 2;
-    read_case(b"read version 2,", &two, 14);
-    read_case(b"read version 2,", &two, 17);
+    read_case(rt, b"read version 2,", &two, 14)?;
+    read_case(rt, b"read version 2,", &two, 17)
 }
 
-fn told_edition(edition: Edition) {
-    text(b" edition");
+fn told_edition(rt: &impl Print, edition: Edition) -> io::Result<()> {
+    text(rt, b" edition")?;
     match edition {
-        Edition::First => number(1),
-        Edition::Second => number(2),
+        Edition::First => number(rt, 1),
+        Edition::Second => number(rt, 2),
     }
 }
 
-fn edition_case(n: u32) {
-    text(b"edition_of");
-    number(n as usize);
-    text(b":");
+fn edition_case(rt: &impl Print, n: u32) -> io::Result<()> {
+    text(rt, b"edition_of")?;
+    number(rt, n as usize)?;
+    text(rt, b":")?;
     match rules::edition_of(n) {
-        EditionAnswer::Chosen(edition) => told_edition(edition),
-        EditionAnswer::Refused(why) => refused(why),
+        EditionAnswer::Chosen(edition) => told_edition(rt, edition)?,
+        EditionAnswer::Refused(why) => refused(rt, why)?,
     }
-    text(b"\n");
+    text(rt, b"\n")
 }
 
 // A refused number gives a state too, so its edition is told with either answer.
-fn fresh_case(n: u32) {
-    text(b"Pieces::fresh");
-    number(n as usize);
-    text(b":");
+fn fresh_case(rt: &impl Print, n: u32) -> io::Result<()> {
+    text(rt, b"Pieces::fresh")?;
+    number(rt, n as usize)?;
+    text(rt, b":")?;
     let made = Pieces::fresh(n);
     let state = made.state;
     let answer = made.answer;
     match answer {
         FeedAnswer::Taken(count) => {
-            text(b" taken");
-            number(count);
+            text(rt, b" taken")?;
+            number(rt, count)?;
         }
-        FeedAnswer::Refused(why) => refused(why),
+        FeedAnswer::Refused(why) => refused(rt, why)?,
     }
-    text(b",");
+    text(rt, b",")?;
     let edition = state.edition;
-    told_edition(edition);
-    text(b"\n");
+    told_edition(rt, edition)?;
+    text(rt, b"\n")
 }
 
-fn editions() {
-    edition_case(0);
-    edition_case(1);
-    edition_case(2);
-    edition_case(3);
-    edition_case(4294967295);
-    fresh_case(1);
-    fresh_case(2);
-    fresh_case(3);
+fn editions(rt: &impl Print) -> io::Result<()> {
+    edition_case(rt, 0)?;
+    edition_case(rt, 1)?;
+    edition_case(rt, 2)?;
+    edition_case(rt, 3)?;
+    edition_case(rt, 4294967295)?;
+    fresh_case(rt, 1)?;
+    fresh_case(rt, 2)?;
+    fresh_case(rt, 3)
 }
 
-fn main() {
+fn main(rt: HostRuntime) -> io::Result<()> {
     let image = sample();
     let fast = fast();
-    linting(image);
+    linting(&rt, image)?;
     let after = lint_into(&image, Edition::Second, marked(), 15);
     let list = after.list;
-    show(list, 15);
-    linting_fast(fast);
-    feeding(image);
-    feeding_fast(fast);
-    rating();
-    rating_fast();
-    write_few(list);
-    write_most(list);
-    write_refused(list);
-    read_most(list);
-    read_two(list);
-    ddr4_cases::run(image);
-    editions();
+    show(&rt, list, 15)?;
+    linting_fast(&rt, fast)?;
+    feeding(&rt, image)?;
+    feeding_fast(&rt, fast)?;
+    rating(&rt)?;
+    rating_fast(&rt)?;
+    write_few(&rt, list)?;
+    write_most(&rt, list)?;
+    write_refused(&rt, list)?;
+    read_most(&rt, list)?;
+    read_two(&rt, list)?;
+    ddr4_cases::run(&rt, image)?;
+    editions(&rt)
 }

@@ -1,38 +1,41 @@
-// What the programs write to standard output. Nothing is promised of it, since the kit's `write` promises nothing of what it writes.
-use libc::STDOUT_FILENO;
-use reading::Refusal;
+// What the programs write to standard output. Nothing is promised of it, since no clause can say which bytes reach the system.
+#![tactic(auto)]
 
-pub fn text(s: &[u8]) {
-    io::write_all(STDOUT_FILENO, s);
+use reading::Refusal;
+use std::io;
+
+pub fn text(rt: &impl Print, s: &[u8]) -> io::Result<()> {
+    rt.write_all(s)
 }
 
-pub fn decimal(n: usize) {
-    io::print_decimal(STDOUT_FILENO, n as u64);
+pub fn decimal(rt: &impl Print, n: usize) -> io::Result<()> {
+    rt.print(n)
 }
 
 // A space and a number in decimal.
-pub fn number(n: usize) {
-    text(b" ");
-    decimal(n);
+pub fn number(rt: &impl Print, n: usize) -> io::Result<()> {
+    text(rt, b" ")?;
+    decimal(rt, n)
 }
 
 // A refusal's number and the values that it carries.
-pub fn refused(why: Refusal) {
-    text(b" refused");
-    number(why.number() as usize);
+pub fn refused(rt: &impl Print, why: Refusal) -> io::Result<()> {
+    text(rt, b" refused")?;
+    number(rt, why.number() as usize)?;
     let carried = why.carries();
     if 0 < carried {
-        number(why.first());
+        number(rt, why.first())?;
     }
     if 1 < carried {
-        number(why.second());
+        number(rt, why.second())?;
     }
+    Ok(())
 }
 
-pub fn yes(so: bool) {
+pub fn yes(rt: &impl Print, so: bool) -> io::Result<()> {
     if so {
-        text(b" yes");
+        text(rt, b" yes")
     } else {
-        text(b" no");
+        text(rt, b" no")
     }
 }

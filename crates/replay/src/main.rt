@@ -21,6 +21,8 @@
 //     findings  the count, and of each code, severity (1 error, 2 warning, 3 info), sub and three numbers
 //     rated     0 without a rated profile, else 1 and its findings as above. An image of at least 672 bytes has one where byte 640 starts
 //               ROOSTCRD; behind it stand cycle time, tAA, tRCD, tRP, tRAS and data rate (32 bits each). judge/vendor.rs reads it too.
+#![tactic(auto)]
+
 ghost use Rattle.std.specs.Prelude.{◌≡◌, ◌<◌, ◌≤◌, take};
 ghost use Rattle.reading.specs.View.{view};
 ghost use Rattle.reading.specs.Said.{told};
@@ -35,37 +37,38 @@ ghost use Rattle.replay.specs.Answers.{finding_record, row_numbers, list_numbers
 use decoders::identity::{IdentityAndBase, IdentityAnswer};
 use decoders::timing::{CasLatencies, CasListAnswer, Picoseconds, Timings, TimingsAnswer};
 use findings::{Finding, Findings, Severity};
-use libc::STDIN_FILENO;
 use printing::{decimal, text};
 use reading::Refusal;
 use rules::{Edition, RatedTimings};
+use std::io;
+use std::io::{ErrorKind, Read};
 
 // So many differences are told one by one; the others are only counted.
 const TOLD: usize = 20;
 
 // The place of a record's next number, and whether every number before it was ours.
-#[derive(Drop)]
+#[derive(Clone, Copy)]
 struct Cursor {
     at: usize,
     same: bool,
 }
 
 // A number of a record, and the place behind it.
-#[derive(Drop)]
+#[derive(Clone, Copy)]
 struct Numeral {
     value: u64,
     next: usize,
 }
 
 // What stands at byte 640 of an image.
-#[derive(Drop)]
+#[derive(Clone, Copy)]
 enum Profile {
     Absent,
     Rated(RatedTimings),
 }
 
 // How an image compares: the first of its answers that is not the list's.
-#[derive(Drop)]
+#[derive(Clone, Copy)]
 enum Verdict {
     Same,
     Differs(u8),
@@ -74,7 +77,7 @@ enum Verdict {
 }
 
 // Where the replay stands.
-#[derive(Drop)]
+#[derive(Clone, Copy)]
 struct State {
     base: [u8; 2048],
     images: usize,
@@ -139,6 +142,7 @@ fn le32(bytes: &[u8], at: usize) -> u32
 }
 
 // The number at a place of a record.
+#[tactic(auto, unfolding(crate::specs::Held::packed_in, crate::specs::Held::behind))]
 fn number(record: &[u8], at: usize) -> Numeral
     requires { at < 65536 }
     ensures { (result.value ≡ packed_in (view «record».now) at) × (result.next ≡ behind (view «record».now) at) }
@@ -163,6 +167,7 @@ fn number(record: &[u8], at: usize) -> Numeral
 }
 
 // Compares the next number of a record with ours.
+#[tactic(auto, unfolding(crate::specs::Held::held))]
 fn expect(record: &[u8], c: Cursor, ours: u64) -> Cursor
     ensures { result ≡ held (view «record».now) c ours }
 {
@@ -353,7 +358,7 @@ fn profile_of(image: &[u8]) -> Profile {
     if image.len() < 672 {
         return Profile::Absent;
     }
-    if check::same(&image[640..648], b"ROOSTCRD") {
+    if image[640..648].starts_with(b"ROOSTCRD") {
         return Profile::Rated(RatedTimings {
             cycle_time: Picoseconds(le32(image, 648)),
             taa: Picoseconds(le32(image, 652)),
@@ -466,29 +471,29 @@ fn judge_findings(record: &[u8], c: Cursor, image: &[u8]) -> Verdict {
     Verdict::Differs(5)
 }
 
-fn name(item: u8) {
+fn name(rt: &impl Print, item: u8) -> io::Result<()> {
     match item {
-        1 => text(b"identity"),
-        2 => text(b"timings"),
-        3 => text(b"data rate"),
-        4 => text(b"CAS latencies"),
-        5 => text(b"findings"),
-        _ => text(b"rated findings"),
+        1 => text(rt, b"identity"),
+        2 => text(rt, b"timings"),
+        3 => text(rt, b"data rate"),
+        4 => text(rt, b"CAS latencies"),
+        5 => text(rt, b"findings"),
+        _ => text(rt, b"rated findings"),
     }
 }
 
 // Tells a difference, unless enough were told, and counts it.
-fn differs(state: State, item: u8) -> State {
+fn differs(rt: &impl Print, state: State, item: u8) -> io::Result<State> {
     if state.differences < TOLD {
-        text(b"image ");
-        decimal(state.images);
-        text(b" differs: ");
-        name(item);
-        text(b"\n");
+        text(rt, b"image ")?;
+        decimal(rt, state.images)?;
+        text(rt, b" differs: ")?;
+        name(rt, item)?;
+        text(rt, b"\n")?;
     }
     let mut later = state;
     later.differences = more(state.differences);
-    later
+    Ok(later)
 }
 
 fn spoiled(state: State) -> State {
@@ -515,18 +520,18 @@ fn changed(base: [u8; 2048], record: &[u8], changes: usize) -> [u8; 2048]
 }
 
 // An image record: its length at 1, the count of changes at 3.
-fn image(state: State, record: &[u8]) -> State {
+fn image(rt: &impl Print, state: State, record: &[u8]) -> io::Result<State> {
     let length = le16(record, 1);
     let changes = wide(reading::byte_or_zero(record, 3));
     if 2048 < length {
-        return spoiled(state);
+        return Ok(spoiled(state));
     }
     let base = state.base;
     let bytes = changed(base, record, changes);
     match judge(record, 4 + 3 * changes, reading::slice(&bytes, 0, length)) {
-        Verdict::Same => state,
-        Verdict::Differs(item) => differs(state, item),
-        Verdict::Malformed => spoiled(state),
+        Verdict::Same => Ok(state),
+        Verdict::Differs(item) => differs(rt, state, item),
+        Verdict::Malformed => Ok(spoiled(state)),
     }
 }
 
@@ -541,49 +546,53 @@ fn base_of(record: &[u8]) -> [u8; 2048] {
     base
 }
 
-fn act(state: State, record: &[u8]) -> State {
+fn act(rt: &impl Print, state: State, record: &[u8]) -> io::Result<State> {
     let mut later = state;
     match reading::byte_or_zero(record, 0) {
         0 => {
             let base = base_of(record);
             later.base = base;
-            later
+            Ok(later)
         }
         1 => {
             later.images = more(state.images);
-            image(later, record)
+            image(rt, later, record)
         }
         2 => {
             later.images = more(state.images);
             later.listed = more(state.listed);
-            image(later, record)
+            image(rt, later, record)
         }
-        _ => spoiled(state),
+        _ => Ok(spoiled(state)),
     }
 }
 
 // Fills the front of a buffer from the input, if there is so much of both.
-fn fill(buffer: &mut [u8], n: usize) -> bool {
+fn fill(input: &mut impl Read, buffer: &mut [u8], n: usize) -> io::Result<bool> {
     if buffer.len() < n {
-        return false;
+        return Ok(false);
     }
-    io::read_full(STDIN_FILENO, &mut buffer[..n]) == n
+    match input.read_exact(&mut buffer[..n]) {
+        Ok(()) => Ok(true),
+        Err(e) if e.kind() == ErrorKind::UnexpectedEof => Ok(false),
+        Err(e) => Err(e),
+    }
 }
 
 // Reads the next record and acts on it.
-fn step(state: State) -> State {
+fn step(rt: &impl Print, input: &mut impl Read, state: State) -> io::Result<State> {
     let mut size = [0u8; 2];
-    if fill(&mut size, 2) {
+    if fill(input, &mut size, 2)? {
         let n = le16(&size, 0);
-        let mut buffer = io::buffer();
-        if fill(&mut buffer, n) {
-            return act(state, reading::slice(&buffer, 0, n));
+        let mut buffer = [0u8; 4096];
+        if fill(input, &mut buffer, n)? {
+            return act(rt, state, reading::slice(&buffer, 0, n));
         }
     }
-    spoiled(state)
+    Ok(spoiled(state))
 }
 
-fn replay(records: u32) -> State {
+fn replay(rt: &impl Print, input: &mut impl Read, records: u32) -> io::Result<State> {
     let base = [0u8; 2048];
     let mut state = State {
         base,
@@ -595,32 +604,32 @@ fn replay(records: u32) -> State {
     let mut i: u32 = 0;
     while i < records {
         if state.malformed {
-            return state;
+            return Ok(state);
         }
-        state = step(state);
+        state = step(rt, input, state)?;
         i += 1;
     }
-    state
+    Ok(state)
 }
 
 // Whether a byte is left.
-fn left() -> bool {
+fn left(input: &mut impl Read) -> io::Result<bool> {
     let mut one = [0u8; 1];
-    fill(&mut one, 1)
+    fill(input, &mut one, 1)
 }
 
-fn conclude(state: State) {
+fn conclude(rt: &impl Print, state: State) -> io::Result<()> {
     if state.malformed {
-        text(b"MALFORMED LIST, replayed only ");
+        text(rt, b"MALFORMED LIST, replayed only ")?;
     } else {
-        text(b"replayed ");
+        text(rt, b"replayed ")?;
     }
-    decimal(state.images);
-    text(b" images: ");
-    decimal(state.differences);
-    text(b" differences, ");
-    decimal(state.listed);
-    text(b" listed\n");
+    decimal(rt, state.images)?;
+    text(rt, b" images: ")?;
+    decimal(rt, state.differences)?;
+    text(rt, b" differences, ")?;
+    decimal(rt, state.listed)?;
+    text(rt, b" listed\n")
 }
 
 // A sound module of 236 bytes: eight bits wide on a bus of 32, CL 40, with these row times and clocks.
@@ -652,50 +661,52 @@ fn timed(image: [u8; 236], at: usize, time: u16) -> [u8; 236]
 }
 
 // The codes of an image's findings, in order.
-fn codes(image: &[u8]) {
+fn codes(rt: &impl Print, image: &[u8]) -> io::Result<()> {
     let answer = rules::lint_image(image, Edition::Second);
     let found = answer.findings;
     let items = found.items;
     let mut i: usize = 0;
     while i < 15 {
         if i < found.count {
-            text(b" ");
-            decimal(wide(items[i].code));
+            text(rt, b" ")?;
+            decimal(rt, wide(items[i].code))?;
         }
         i += 1;
     }
-    text(b"\n");
+    text(rt, b"\n")
 }
 
 // The bench lines of document 01 on an image that are not marked P. Those on pieces are run by `feeding`, and the printed listing is
 // what `spdlint` is run on.
-fn bench() {
-    text(b"tRC 48640, tRAS 32000, tRP 16640:");
+fn bench(rt: &impl Print) -> io::Result<()> {
+    text(rt, b"tRC 48640, tRAS 32000, tRP 16640:")?;
     let sound = module(416, 16640, 16640, 16640, 32000, 48640);
-    codes(&sound);
-    text(b"bus 8, I/O 16:");
+    codes(rt, &sound)?;
+    text(rt, b"bus 8, I/O 16:")?;
     let mut narrow = sound;
     narrow[6] = 0x40;
     narrow[235] = 0x20;
-    codes(&narrow);
-    text(b"tCK 400, tAA 401, tRCD 403, tRP 401, tRAS 402, tRC 401:");
+    codes(rt, &narrow)?;
+    text(
+        rt,
+        b"tCK 400, tAA 401, tRCD 403, tRP 401, tRAS 402, tRC 401:",
+    )?;
     let late = module(400, 401, 403, 401, 402, 401);
-    codes(&late);
+    codes(rt, &late)
 }
 
-fn main() {
-    bench();
+fn main(rt: HostRuntime) -> io::Result<()> {
+    bench(&rt)?;
+    let mut input = rt.reader();
     let mut head = [0u8; 12];
-    if fill(&mut head, 12) {
-        if check::same(&head[0..8], b"ROOSTLST") {
-            let state = replay(le32(&head, 8));
-            if left() {
-                conclude(spoiled(state));
-                return;
+    if fill(&mut input, &mut head, 12)? {
+        if head[0..8].starts_with(b"ROOSTLST") {
+            let state = replay(&rt, &mut input, le32(&head, 8))?;
+            if left(&mut input)? {
+                return conclude(&rt, spoiled(state));
             }
-            conclude(state);
-            return;
+            return conclude(&rt, state);
         }
     }
-    conclude(spoiled(replay(0)));
+    conclude(&rt, spoiled(replay(&rt, &mut input, 0)?))
 }
