@@ -4,7 +4,7 @@ IMAGE ?= samples/ddr5-4800.bin
 IMAGES ?= 10000000
 PREFIX ?= /usr/local
 DESTDIR ?=
-ARCHIVES ?=
+ARCHIVE ?=
 
 .PHONY: help lint station install uninstall test judge bench list strength cited surface trace fmt
 
@@ -31,9 +31,9 @@ lint:
 station:
 	@tools/station
 
-# ARCHIVES: archives that are at hand, for a test; without them they are proved and built
+# ARCHIVE: an archive that is at hand, for a test; without it it is proved and built
 install:
-	@PREFIX='$(PREFIX)' DESTDIR='$(DESTDIR)' tools/install $(ARCHIVES)
+	@PREFIX='$(PREFIX)' DESTDIR='$(DESTDIR)' tools/install $(ARCHIVE)
 
 uninstall:
 	@PREFIX='$(PREFIX)' DESTDIR='$(DESTDIR)' tools/install --uninstall
@@ -57,7 +57,7 @@ trace:
 	@tools/trace
 
 fmt:
-	@rt fmt
+	@for crate in crates/*/; do (cd "$$crate" && rt fmt) || exit; done
 
 strength:
 	@tools/strength run
