@@ -66,8 +66,8 @@ class Declared:
         return "::".join([self.crate, *below, self.name])
 
     def proof(self):
-        """The place of its own proof file, as the prover's messages have it."""
-        return "/proofs/" + "/".join(self.call.split("::")[1:]) + "/Proof.antt:"
+        """The folder of its own proof files, as the prover's messages have it."""
+        return "/proofs/" + "/".join(self.call.split("::")[1:]) + "/"
 
     @property
     def text(self):

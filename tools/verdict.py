@@ -9,51 +9,42 @@ BOOK = pathlib.Path(__file__).resolve().parent / "strength.txt"
 FACT, SHAPE, OPEN, LEFT, NOT = "refused by a fact", "refused by shape", "no verdict", "survived", "not Rattle"
 VERDICTS = [FACT, SHAPE, OPEN, LEFT, NOT]
 
-# What shows that the proof file does not fit: a name that it counts on is not there; it answers another need than the one that stands
-# at its place; or, where a function is walked by hand, its code has other places or steps.
-UNFIT = re.compile(
-    "|".join(
-        [
-            r"has no \S+ that can be named from here",
-            r"has no field",
-            r"this λ has \d+ binders",
-            r"on the face `κs = ",
-            r"this pattern needs a function",
-            r"no proof of `Rattle·\S+\.specs\.(?:Said\.Said|Lint\.Lint|declared\.)",
-            r"no proof of `(?:Rattle·\S+\.Reads\.Post|denote\.Triple\.Entry\.Res) ",
-            r"differ (?:only )?where one has `Rattle·[^` ]*\.Lts\.[A-Z][^` ]*`",
-            r"differ (?:only )?where one has `[^`]*(?:spotOf|H \.at; room|mir\.Syntax\.(?:assign|seq)|mir\.MapTy|borrow\.Rule\.Scalar\.k-op)",
-        ]
-    )
-)
+# What shows that a proof file does not fit: a name that it counts on is not there, or it has another form than the code.
+UNFIT = re.compile(r"has no field|is not in scope|that can be named|is no name|this λ has \d+ binders|exports no `|this pattern needs a function")
 
 
 def first_error(own, said):
-    """The first error in one of the changed functions' own proofs, else the first need that is open, else the first error."""
+    """The first error in one of the changed functions' own proofs, else the first goal that is open, else the first error."""
     messages = re.sub(r"\n  +", " ", said).splitlines()
-    errors = [s for s in messages if ": error: " in s and "was not admitted" not in s]
-    needs = [s for s in messages if s.startswith("note: ") and "it is not proved" in s]
-    return next(iter([s for s in errors if any(place in s for place in own)] + needs + errors), "")
+    errors = [s for s in messages if ": error" in s and "was not admitted" not in s]
+    goals = [s for s in messages if s.startswith("note: ") and "it is not proved" in s]
+    return next(iter([s for s in errors if any(place in s for place in own)] + goals + errors), "")
 
 
-def refusal(said, own, number):
-    """The verdict on a refused crate, by its first error: `own` are the places of the changed functions' proof files, and `number` says
-    whether nothing but a number was changed."""
+def refusal(said, own):
+    """The verdict on a refused crate, by its first error: `own` are the places of the changed functions' proof files."""
     first = first_error(own, said)
     if not first:
         return OPEN
-    # code that is compared with a plan differs by a fact only in the plan's number
-    planned = "Listed.Runs" in first and not number
-    return SHAPE if planned or UNFIT.search(first) else FACT
+    return SHAPE if UNFIT.search(first) else FACT
 
 
-def verdict_of(status, said, own, number):
+def verdict_of(status, said, own):
     """What the prover said of a changed crate, and with which status."""
     if status == 0:
         return LEFT
     if status == 1 and re.search(r"^logic=not-proved", said, re.M):
-        return refusal(said, own, number)
+        return refusal(said, own)
     return OPEN if status == 3 else NOT
+
+
+def told_of(line):
+    """The verdict on a must-fail edit by what a line of `rt ci` or `rt must-fail` says of it, behind its name."""
+    if not line.startswith("refused, as it must be"):
+        return LEFT if line.startswith("NOT REFUSED") else NOT if line.startswith("BAD EDIT") else OPEN
+    if line.startswith("refused, as it must be (only by a limit"):
+        return OPEN
+    return SHAPE if "(only because a proof file names" in line or UNFIT.search(line) else FACT
 
 
 # ---- the book
