@@ -15,7 +15,7 @@ KIT = os.path.dirname(subprocess.run(["rt", "doc"], capture_output=True, text=Tr
 SNAKE = os.path.join(KIT, "port", "notes", "2026-11-18-names-are-in-snake-case", "snake.py")
 # Lemmas that port.py gave the very name that a definition gets here: they are named after the left side of their equation, as lemmas are.
 FIRST = [("crates/pieces/proofs/Running.antt", "in_order", "taken_from-in_order"), ("crates/ddr4rules/proofs/Worked.antt", "in_order", "ddr4_lint_at-in_order"),
-         ("crates/manufacturing/proofs/Worked.antt", "part_of", "length-part_at"), ("crates/reading/proofs/Made.antt", "get_d-firsts", "get_or-firsts")]
+         ("crates/manufacturing/proofs/Worked.antt", "part_of", "length-part_at")]
 WORD = r"(?<![\w'\-◌«]){}(?![\w'\-◌])"
 DECLARED = re.compile(r"^(?:abbrev |unfoldable |pub |data |record |axiom )*([^\s:({]+)(?: [({].*?)? : ", re.M)
 
