@@ -2,7 +2,7 @@
 // It asks the linter once and only spells what it answers.
 #![tactic(auto)]
 
-ghost use Rattle.std.specs.Prelude.{◌≡◌, take, IfOk, IfSome};
+ghost use Rattle.std.specs.Prelude.{◌≡◌, ◌≤◌, length, take, IfOk, IfSome};
 
 use decoders::identity::IdentityAnswer;
 use decoders::timing::TimingsAnswer;
@@ -11,7 +11,6 @@ use pieces::LONGEST;
 use printing::{number, refused, text};
 use reading::Refusal;
 use rules::Edition;
-use std::alloc::Global;
 use std::io;
 use std::io::Read;
 
@@ -85,23 +84,31 @@ fn lines(rt: &impl Print, found: Findings) -> io::Result<()> {
     Ok(())
 }
 
-// The image on the input, and one byte behind it where it is too long.
-fn image_from<R: Read + Drop>(alloc: Global, input: R) -> io::Result<Vec<u8>>
-    ensures { IfOk result (λ image. IfSome (R.remaining input) (λ bytes. image.items ≡ take 2049 bytes)) }
+// Reads until the buffer is full or the input ends: how many bytes.
+fn read_full<R: Read>(input: &mut R, buffer: &mut [u8]) -> io::Result<usize>
+    ensures bound { IfOk result (λ n. n ≤ length buffer.new) }
+    ensures bytes { IfOk result (λ n. IfSome (R.remaining input.old) (λ bytes. take n buffer.new ≡ take (length buffer.old) bytes)) }
 {
-    let mut image = Vec::new(alloc);
-    input.take(LONGEST as u64 + 1).read_to_end(&mut image)?;
-    Ok(image)
+    let mut got = 0;
+    while got < buffer.len() {
+        let n = input.read(&mut buffer[got..])?;
+        if n == 0 {
+            return Ok(got);
+        }
+        got += n;
+    }
+    Ok(got)
 }
 
 fn main(rt: HostRuntime) -> io::Result<()> {
-    let image = image_from(rt.alloc(), rt.reader())?;
-    if LONGEST < image.len() {
+    let mut buffer = [0u8; LONGEST + 1];
+    let got = read_full(&mut rt.reader(), &mut buffer)?;
+    if LONGEST < got {
         return text(&rt, b"refused 6\n");
     }
-    let linted = rules::lint_image(&image, Edition::Second);
+    let linted = rules::lint_image(&buffer[..got], Edition::Second);
     text(&rt, b"bytes")?;
-    number(&rt, image.len())?;
+    number(&rt, got)?;
     text(&rt, b"\nidentity")?;
     let identity = linted.identity;
     match identity {
