@@ -460,6 +460,7 @@ pub fn identity_bytes(image: &[u8]) -> IdentityBytesAnswer
 }
 
 // Bytes 0 to 3. A part is small enough to be compiled into each of its callers, which the whole is not.
+#[inline(always)]
 #[tactic(auto, unfolding(crate::specs::Identity::base_of))]
 pub fn decode_base(bytes: IdentityBytes) -> BaseAnswer
     ensures { base_said result ≡ base_of bytes }
@@ -486,6 +487,7 @@ pub fn decode_base(bytes: IdentityBytes) -> BaseAnswer
 }
 
 // Bytes 4 to 7.
+#[inline(always)]
 #[tactic(auto, unfolding(crate::specs::Identity::sdram_of))]
 pub fn decode_sdram(bytes: IdentityBytes) -> SdramAnswer
     ensures { sdram_said result ≡ sdram_of bytes }
@@ -524,6 +526,7 @@ pub fn decode_sdram(bytes: IdentityBytes) -> SdramAnswer
 }
 
 // Bytes 234 and 235.
+#[inline(always)]
 #[tactic(auto, unfolding(crate::specs::Identity::organization_of))]
 pub fn decode_organization(bytes: IdentityBytes) -> OrganizationAnswer
     ensures { organization_said result ≡ organization_of bytes }

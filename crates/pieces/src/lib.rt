@@ -208,7 +208,9 @@ pub fn lay(kept: &mut [u8], at: usize, piece: &[u8])
     lay_eight(kept, at + 8, piece, 8);
 }
 
-// As many bytes as there is room for: eight to sixteen as two times eight, which may overlap, and else byte by byte.
+// As many bytes as there is room for: eight to sixteen as two times eight, which may overlap, and else byte by byte. Out of line, so that
+// feeding a burst saves no registers for it.
+#[inline(never)]
 fn lay_part(kept: &mut [u8], at: usize, piece: &[u8])
     ensures { kept.new ≡ overlaid kept.old at piece.now }
 {

@@ -1,5 +1,5 @@
-// The station's library: what C calls. An answer of 0 or more is a count. Below zero it is a refusal: its word with a minus sign, and nothing
-// that was lent has changed. station/roostcord.h is its header.
+// The station's library: what C calls, through the exports of `roostcord_c`. An answer of 0 or more is a count. Below zero it is a refusal: its
+// word with a minus sign, and nothing that was lent has changed. station/roostcord.h is the header.
 #![tactic(auto)]
 
 ghost use Rattle.std.specs.Prelude.{◌≡◌, ◌+◌, ◌*◌, ◌/◌, ◌%◌, ◌<◌, ◌≤◌, ◌++◌, pos, neg_ℤ, length, take};
@@ -322,11 +322,11 @@ pub fn roostcord_pieces_feed(state: &mut [u8], offset: usize, piece: &[u8]) -> i
         FeedAnswer::Taken(total) => total,
         FeedAnswer::Refused(why) => return refusal_word(why),
     };
-    pieces::lay(&mut state[2..STATE_SIZE], taken, piece);
     // The edition's bit stays, above the count; as one number the two bytes are stored at once.
     let later = word % 8192 + piece.len();
     state[0] = (later % 256) as u8;
     state[1] = (later / 256) as u8;
+    pieces::lay(&mut state[2..STATE_SIZE], taken, piece);
     count_word(total)
 }
 
