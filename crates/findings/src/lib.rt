@@ -1,5 +1,5 @@
 // Findings: the record, when two are the same, fifteen of them by value with a count, and the two loops between those and a lent list.
-// No other function walks a list of records, so the proofs done by hand stand here alone.
+// No other function loops over a lent list of records.
 #![tactic(auto)]
 
 ghost use Rattle.std.specs.Prelude.{◌≡◌, [], ◌∷◌, ◌<◌, length, take};

@@ -3,7 +3,7 @@
 // All is under edition 2 but where a line says edition 1. DDR4 images are in `ddr4_cases`.
 //
 // A list is the first `len` of seventeen places, which all hold the finding `mark` before the call. The six functions that lend one are
-// straight lines, proved by hand: each hands the array and the answer back by value, so that the rest of the program is on values alone.
+// straight lines: each hands the array and the answer back by value, so that the rest of the program is on values alone.
 #![tactic(auto)]
 
 ghost use Rattle.std.specs.Prelude.{◌≡◌, ◌≤◌, ◌++◌, length, take, drop};
