@@ -12,6 +12,12 @@ VERDICTS = [FACT, SHAPE, OPEN, LEFT, NOT]
 # What shows that a proof file does not fit: a name that it counts on is not there, or it has another form than the code.
 UNFIT = re.compile(r"has no field|is not in scope|that can be named|is no name|this λ has \d+ binders|exports no `|this pattern needs a function")
 
+# How the prover words a fact that fails: a goal that is left open, or an equation, a bound or a type in a proof that no longer holds.
+FAILS = re.compile(
+    r"it is not proved that|the two (?:types|values|sides) |: `omega`: the goal does not follow|: expected type `|: `rw`: no occurrence of the path's"
+    r"|: give a proof of that as the last argument|: computed as far as they go, "
+)
+
 
 def first_error(own, said):
     """The first error in one of the changed functions' own proofs, else the first goal that is open, else the first error."""
@@ -24,9 +30,9 @@ def first_error(own, said):
 def refusal(said, own):
     """The verdict on a refused crate, by its first error: `own` are the places of the changed functions' proof files."""
     first = first_error(own, said)
-    if not first:
-        return OPEN
-    return SHAPE if UNFIT.search(first) else FACT
+    if UNFIT.search(first):
+        return SHAPE
+    return FACT if FAILS.search(first) else OPEN
 
 
 def verdict_of(status, said, own):
@@ -44,7 +50,10 @@ def told_of(line):
         return LEFT if line.startswith("NOT REFUSED") else NOT if line.startswith("BAD EDIT") else OPEN
     if line.startswith("refused, as it must be (only by a limit"):
         return OPEN
-    return SHAPE if "(only because a proof file names" in line or UNFIT.search(line) else FACT
+    if "(only because a proof file names" in line or UNFIT.search(line):
+        return SHAPE
+    # rt gives the first message alone, and what is not known here counts for nothing
+    return FACT if FAILS.search(line) else OPEN
 
 
 # ---- the book
