@@ -4,7 +4,7 @@ IMAGE ?= samples/ddr5-4800.bin
 IMAGES ?= 10000000
 PREFIX ?= /usr/local
 DESTDIR ?=
-ARCHIVE ?=
+ARCHIVES ?=
 
 .PHONY: help lint station install uninstall test judge bench list strength cited surface trace fmt
 
@@ -31,9 +31,9 @@ lint:
 station:
 	@tools/station
 
-# ARCHIVE: an archive that is at hand, for a test; without it it is proved and built
+# ARCHIVES: the archive that is at hand, for a test; without it it is proved and built
 install:
-	@PREFIX='$(PREFIX)' DESTDIR='$(DESTDIR)' tools/install $(ARCHIVE)
+	@PREFIX='$(PREFIX)' DESTDIR='$(DESTDIR)' tools/install $(ARCHIVES)
 
 uninstall:
 	@PREFIX='$(PREFIX)' DESTDIR='$(DESTDIR)' tools/install --uninstall
