@@ -52,7 +52,8 @@ def told_of(line):
         return OPEN
     if "(only because a proof file names" in line or UNFIT.search(line):
         return SHAPE
-    # rt gives the first message alone, and what is not known here counts for nothing
+    # rt gives the first message alone, and what is not known here counts for nothing. A goal at which the search gave up is left open all the
+    # same: only where rt itself blames a limit, above, is nothing known of it
     return FACT if FAILS.search(line) else OPEN
 
 
