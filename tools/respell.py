@@ -12,6 +12,7 @@ import glob, os, re, subprocess, sys
 HERE = os.path.dirname(os.path.abspath(__file__))
 TABLE, LANDED = (os.path.join(HERE, name) for name in ("names.tsv", "names-landed.tsv"))
 KIT = os.path.dirname(subprocess.run(["rt", "doc"], capture_output=True, text=True, check=True).stdout.strip())
+# where rattle-kit-13f has it
 SNAKE = os.path.join(KIT, "port", "notes", "2026-11-18-names-are-in-snake-case", "snake.py")
 # Lemmas that port.py gave the very name that a definition gets here: they are named after the left side of their equation, as lemmas are.
 FIRST = [("crates/pieces/proofs/Running.antt", "in_order", "taken_from-in_order"), ("crates/ddr4rules/proofs/Worked.antt", "in_order", "ddr4_lint_at-in_order"),
