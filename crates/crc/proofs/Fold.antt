@@ -2,13 +2,19 @@
 -- of two, which is computed; so they agree. Assumes nothing.
 use Prim.Native.Nat.{ℕ, zero, suc, ◌+◌, ◌*◌, ◌/◌, ◌%◌, ◌^◌, ◌<◌}
 use mathlib.Core.Path.{◌≡◌, refl, sym, ap, ap₂, ◌∙◌}
-use mathlib.Core.Bool.{true}
-use mathlib.Core.List.{[], ◌∷◌}
-use native.Mathlib.Nat.{zero-add}
+use mathlib.Core.Bool.{Bool, true}
+use mathlib.Core.List.{List}
+use native.Mathlib.Nat.{zero-add, pow-suc, div-one, mod-lt, mod-one, mod-eq_of_lt}
 use native.Mathlib.Omega.{arith}
-use lib.Bits.{bit_xor, xor_comm}
+use lib.Dec.{lit<}
+use lib.Pow.{pow_pos}
+use lib.ListN.{length, get_or}
+use lib.Bits.{bit_xor, xor_assoc, xor_comm, xor_shifted, xor_zero_r}
+use Rattle.std.specs.Int.{w64, byte_at, bytes_high_first, from_be_bytes}
+use Rattle.std.proofs.lemmas.Nat.{be_bytes_8, pow-add, mod-pow-add}
+use Rattle.reading.specs.Pick.{and}
+use Rattle.reading.proofs.Picked.{both}
 use Rattle.crc.specs.Crc.{shifted, shifts, byte_in, crc_from}
-use Rattle.crc.proofs.Xor.{xor_assoc}
 use Rattle.crc.proofs.Linear.{Linear, lin-id, lin-after, lin-sum, lin-shr, lin-mod, lin-times, lin-shl, same_bits, by_bits}
 use Rattle.crc.proofs.Laws.{shifts-linear}
 
@@ -84,15 +90,17 @@ start : (r : ℕ) → r < 65536 → shifts 64 r ≡ eight (r * 2 ^ 48)
 unfolding eight line1 line2 line3 line4 folded shifted
 start = by_bits (shifts 64) (λ r. eight (r * 2 ^ 48)) (shifts-linear 64) (lin-after eight (λ r. r * 2 ^ 48) eight-linear (lin-times 48)) 16 refl
 
--- a byte enters, and m bits are still to come: a byte by itself is moved at once
-abbrev Moved : ℕ → Type 0
-Moved m = same_bits (λ b. shifts (8 + m) (b * 2 ^ 8)) (λ b. eight (b * 2 ^ m)) 8 ≡ true
+-- a byte enters, and k bytes are still to come: a byte by itself is moved at once. That is tested for each k below n
+abbrev tested : (n : ℕ) → Bool
+tested zero = true
+tested (suc k) = and (same_bits (λ b. shifts (8 + 8 * k) (b * 2 ^ 8)) (λ b. eight (b * 2 ^ (8 * k))) 8) (tested k)
 
-moved : Moved 0 × Moved 8 × Moved 16 × Moved 24 × Moved 32 × Moved 40 × Moved 48 × Moved 56
+eight-tested : tested 8 ≡ true
 unfolding eight line1 line2 line3 line4 folded shifted
-moved = (refl, refl, refl, refl, refl, refl, refl, refl)
+eight-tested = refl
 
-enters : (m : ℕ) → Moved m → (r v b : ℕ) → b < 256 → shifts (8 + m) r ≡ eight v → shifts m (byte_in r b) ≡ eight (bit_xor v (b * 2 ^ m))
+enters : (m : ℕ) → same_bits (λ b. shifts (8 + m) (b * 2 ^ 8)) (λ b. eight (b * 2 ^ m)) 8 ≡ true
+    → (r v b : ℕ) → b < 256 → shifts (8 + m) r ≡ eight v → shifts m (byte_in r b) ≡ eight (bit_xor v (b * 2 ^ m))
 unfolding byte_in
 enters m t r v b h e =
     shifts-add 8 m (bit_xor r (b * 256))
@@ -103,35 +111,41 @@ enters m t r v b h e =
     (lin-after eight (λ b. b * 2 ^ m) eight-linear (lin-times m)) 8 t b h)
     ∙ sym (eight-linear v (b * 2 ^ m))
 
--- eight bytes, each in its place, as one number
-abbrev pub word : (b0 b1 b2 b3 b4 b5 b6 b7 : ℕ) → ℕ
-word b0 b1 b2 b3 b4 b5 b6 b7 = bit_xor (bit_xor (bit_xor (bit_xor (bit_xor (bit_xor (bit_xor b0 b1) b2) b3) b4) b5) b6) b7
+byte-lt : (k n : ℕ) → byte_at k n < 256
+byte-lt zero n = mod-lt n (lit< tt)
+byte-lt (suc k) n = mod-lt (n / 256 ^ suc k) (lit< tt)
 
--- the register may be added to them last
-past : (a r b : ℕ) {x : ℕ} → x ≡ bit_xor a r → bit_xor x b ≡ bit_xor (bit_xor a b) r
-past a r b e = ap (λ (y : ℕ). bit_xor y b) e ∙ xor_assoc a r b ∙ ap (bit_xor a) (xor_comm r b) ∙ sym (xor_assoc a b r)
+worth : (k : ℕ) → 256 ^ k ≡ 2 ^ (8 * k)
+worth zero = refl
+worth (suc k) =
+    let more : 8 * suc k ≡ 8 * k + 8 = omega arith in
+    pow-suc 256 k ∙ ap (λ (x : ℕ). x * 256) (worth k) ∙ sym (ap (λ (j : ℕ). 2 ^ j) more ∙ pow-add 2 (8 * k) 8)
 
-added-last : (r b0 b1 b2 b3 b4 b5 b6 b7 : ℕ) → word (bit_xor r b0) b1 b2 b3 b4 b5 b6 b7 ≡ bit_xor (word b0 b1 b2 b3 b4 b5 b6 b7) r
-added-last r b0 b1 b2 b3 b4 b5 b6 b7 =
-    let w1 : ℕ = bit_xor b0 b1 in
-    let w2 : ℕ = bit_xor w1 b2 in
-    let w3 : ℕ = bit_xor w2 b3 in
-    let w4 : ℕ = bit_xor w3 b4 in
-    let w5 : ℕ = bit_xor w4 b5 in
-    let w6 : ℕ = bit_xor w5 b6 in
-    past w6 r b7 (past w5 r b6 (past w4 r b5 (past w3 r b4 (past w2 r b3 (past w1 r b2 (past b0 r b1 (xor_comm r b0)))))))
+byte-is : (k n : ℕ) → byte_at k n ≡ n / 2 ^ (8 * k) % 256
+byte-is zero n = ap (λ (x : ℕ). x % 256) (sym (div-one n))
+byte-is (suc k) n = ap (λ (p : ℕ). n / p % 256) (worth (suc k))
 
-module _ (r b0 b1 b2 b3 b4 b5 b6 b7 : ℕ) where
-  pub eight-once : r < 65536 → b0 < 256 → b1 < 256 → b2 < 256 → b3 < 256 → b4 < 256 → b5 < 256 → b6 < 256 → b7 < 256
-      → crc_from r (b0 ∷ b1 ∷ b2 ∷ b3 ∷ b4 ∷ b5 ∷ b6 ∷ b7 ∷ [])
-      ≡ eight (bit_xor (word (b0 * 2 ^ 56) (b1 * 2 ^ 48) (b2 * 2 ^ 40) (b3 * 2 ^ 32) (b4 * 2 ^ 24) (b5 * 2 ^ 16) (b6 * 2 ^ 8) (b7 * 2 ^ 0)) (r * 2 ^ 48))
-  eight-once h h0 h1 h2 h3 h4 h5 h6 h7 =
-      enters 0 moved.0 _ _ b7 h7
-      (enters 8 moved.1 _ _ b6 h6
-      (enters 16 moved.2 _ _ b5 h5
-      (enters 24 moved.3 _ _ b4 h4
-      (enters 32 moved.4 _ _ b3 h3
-      (enters 40 moved.5 _ _ b2 h2
-      (enters 48 moved.6 _ _ b1 h1
-      (enters 56 moved.7 _ _ b0 h0 (start r h))))))))
-      ∙ ap eight (added-last (r * 2 ^ 48) (b0 * 2 ^ 56) (b1 * 2 ^ 48) (b2 * 2 ^ 40) (b3 * 2 ^ 32) (b4 * 2 ^ 24) (b5 * 2 ^ 16) (b6 * 2 ^ 8) (b7 * 2 ^ 0))
+-- the lowest k bytes of a number enter, the highest of them first
+enter : (k : ℕ) → tested k ≡ true → (n r v : ℕ) → shifts (8 * k) r ≡ eight v → crc_from r (bytes_high_first k n) ≡ eight (bit_xor v (n % 2 ^ (8 * k)))
+enter zero t n r v e = e ∙ ap eight (sym (ap (bit_xor v) (mod-one n) ∙ xor_zero_r v))
+enter (suc k) t n r v e =
+    let b = byte_at k n in
+    let more : 8 * suc k ≡ 8 + 8 * k = omega arith in
+    let tests = both _ _ t in
+    enter k tests.1 n (byte_in r b) (bit_xor v (b * 2 ^ (8 * k))) (enters (8 * k) tests.0 r v b (byte-lt k n) (rw more at e))
+    ∙ ap eight
+    (xor_assoc v (b * 2 ^ (8 * k)) (n % 2 ^ (8 * k))
+    ∙ ap (bit_xor v)
+    (xor_shifted b (8 * k) (n % 2 ^ (8 * k)) (mod-lt n (pow_pos (8 * k)))
+    ∙ ap (λ (x : ℕ). x * 2 ^ (8 * k) + n % 2 ^ (8 * k)) (byte-is k n)
+    ∙ sym (ap (λ (j : ℕ). n % 2 ^ j) more ∙ mod-pow-add n 8 (8 * k))))
+
+-- eight bytes enter as the number that they are, highest first
+pub eight-once : (r : ℕ) (bytes : List ℕ) → r < 65536 → length bytes ≡ 8 → ((i : ℕ) → get_or bytes i 0 < 256)
+    → crc_from r bytes ≡ eight (bit_xor (from_be_bytes w64 bytes) (r * 2 ^ 48))
+eight-once r bytes h size small =
+    let n = from_be_bytes w64 bytes in
+    let fits : n < 2 ^ 64 = omega (arith, small 0, small 1, small 2, small 3, small 4, small 5, small 6, small 7) in
+    ap (crc_from r) (sym (be_bytes_8 bytes n size small refl))
+    ∙ enter 8 eight-tested n r (r * 2 ^ 48) (start r h)
+    ∙ ap eight (xor_comm (r * 2 ^ 48) (n % 2 ^ 64) ∙ ap (λ (x : ℕ). bit_xor x (r * 2 ^ 48)) (mod-eq_of_lt fits))

@@ -6,8 +6,7 @@ use native.Mathlib.Omega.{arith}
 use lib.ListN.{length}
 use lib.Bits.{bit_xor}
 use Rattle.crc.specs.Crc.{shifted, shifts, byte_in, crc_from, crc_of, xor_of}
-use Rattle.crc.proofs.Xor.{medial}
-use Rattle.crc.proofs.Linear.{Linear, lin-sum, lin-times, lin-shl, lin-bit}
+use Rattle.crc.proofs.Linear.{medial, Linear, lin-sum, lin-times, lin-shl, lin-bit}
 
 -- ---- LINEAR: of byte strings of one length, the CRC of the exclusive or is the exclusive or of the CRCs
 

@@ -1,10 +1,9 @@
-pub mod Xor
 pub mod Linear
 pub mod Laws
 pub mod Fold
+pub mod Eights
 pub mod Base
 pub mod Reach
 pub mod Refused
-pub mod Once
 pub mod Worked
 pub mod Seen

@@ -3,15 +3,29 @@
 use Prim.Native.Nat.{ℕ, zero, suc, ◌+◌, ◌*◌, ◌/◌, ◌%◌, ◌^◌, ◌<◌}
 use mathlib.Core.Path.{◌≡◌, refl, sym, ap, ap₂, ◌∙◌}
 use mathlib.Core.Bool.{Bool, true}
-use native.Mathlib.Nat.{add-zero, div-add-mod', mod-lt, one-mul, zero-mul}
+use native.Mathlib.Nat.{add-zero, div-add-mod', mod-lt, not-suc-le-zero, le_of_suc-le-suc, one-mul, zero-mul}
 use native.Mathlib.Omega.{arith}
-use lib.Dec.{eqb}
+use lib.Dec.{eqb, lit<}
 use lib.Pow.{pow_pos, shr_lt}
-use lib.Bits.{bit_xor, xor_shr, xor_mod, xor_block, xor_shifted, xor_self, xor_zero_r}
+use lib.Bits.{bit_xor, xor_assoc, xor_comm, xor_shr, xor_mod, xor_block, xor_shifted, xor_self, xor_zero_r}
 use borrow.Author.Tests.{eqb-true}
 use Rattle.reading.specs.Pick.{and}
 use Rattle.reading.proofs.Picked.{both}
-use Rattle.crc.proofs.Xor.{bit-cases, bit-lt, medial}
+
+-- a bit is 0 or 1
+pub bit-cases : (P : ℕ → Type 0) → P 0 → P 1 → (x : ℕ) → x < 2 → P x
+bit-cases P p q zero h = p
+bit-cases P p q (suc zero) h = q
+bit-cases P p q (suc (suc x)) h = absurd (not-suc-le-zero (le_of_suc-le-suc (le_of_suc-le-suc h)))
+
+pub bit-lt : (n : ℕ) → n % 2 < 2
+bit-lt n = mod-lt n (lit< tt)
+
+pub medial : (a b c d : ℕ) → bit_xor (bit_xor a b) (bit_xor c d) ≡ bit_xor (bit_xor a c) (bit_xor b d)
+medial a b c d =
+    xor_assoc a b (bit_xor c d)
+    ∙ ap (bit_xor a) (sym (xor_assoc b c d) ∙ ap (λ (x : ℕ). bit_xor x d) (xor_comm b c) ∙ xor_assoc c b d)
+    ∙ sym (xor_assoc a c (bit_xor b d))
 
 abbrev pub Linear : (ℕ → ℕ) → Type 0
 Linear f = (a b : ℕ) → f (bit_xor a b) ≡ bit_xor (f a) (f b)

@@ -1,21 +1,21 @@
 -- What the CRC always sees: a change of one byte, or of two neighbouring ones. Two bytes that enter are sixteen bits that are added to the
 -- register before it moves, and a register that moves, or that bytes enter, never forgets what it held. Assumes nothing.
+use Rattle.std.specs.Prelude.{Ok}
 use Prim.Native.Nat.{ℕ, zero, suc, ◌+◌, ◌*◌, ◌/◌, ◌%◌, ◌<◌}
 use mathlib.Core.Path.{◌≡◌, refl, sym, ap, ◌∙◌}
 use mathlib.Core.Bool.{Bool, true, false}
 use mathlib.Core.List.{List, [], ◌∷◌, ◌++◌}
 use native.Mathlib.Nat.{mod-eq_of_lt, mod-lt}
 use native.Mathlib.Omega.{arith}
-use lib.Bits.{bit_xor, xor_lt, xor_self, xor_comm, xor_shifted}
+use lib.Bits.{bit_xor, xor_assoc, xor_lt, xor_self, xor_comm, xor_shifted}
 use lib.Dec.{lit<}
 use lib.ListN.{length, get_or, length-append}
 use lib.Seq.{take_at, get_or-append-add}
 use borrow.Author.Tests.{eqb-true}
-use Rattle.reading.specs.Said.{Said, gives, onward}
+use Rattle.reading.specs.Refusal.{Answer, onward}
 use Rattle.crc.specs.Crc.{shifted, shifts, byte_in, crc_from, crc_of}
 use Rattle.crc.specs.Base.{base_crc_of}
-use Rattle.crc.proofs.Xor.{bit-cases, bit-lt, xor_assoc}
-use Rattle.crc.proofs.Linear.{lin-times, by_bits}
+use Rattle.crc.proofs.Linear.{bit-cases, bit-lt, lin-times, by_bits}
 use Rattle.crc.proofs.Laws.{shifts-linear, crc-join}
 use Rattle.crc.proofs.Base.{sound-long}
 use Rattle.crc.proofs.Refused.{crc-is}
@@ -112,9 +112,9 @@ one_byte p q a c ha hc e =
 -- ---- the check of the base block sees it
 
 -- an image that it says yes of holds the CRC of its first 510 bytes behind them
-fits : (s t : List ℕ) → length s ≡ 510 → base_crc_of (s ++ t) ≡ gives true → crc_of s ≡ get_or t 0 0 + 256 * get_or t 1 0
+fits : (s t : List ℕ) → length s ≡ 510 → base_crc_of (s ++ t) ≡ Ok true → crc_of s ≡ get_or t 0 0 + 256 * get_or t 1 0
 fits s t h e =
-    let long = sound-long (s ++ t) (ap {B = Bool} (λ (x : Said Bool). onward (λ t. false) x (λ b. b)) e) in
+    let long = sound-long (s ++ t) (ap {B = Bool} (λ (x : Answer Bool). onward (λ t. false) x (λ b. b)) e) in
     eqb-true (crc_of s) (get_or t 0 0 + 256 * get_or t 1 0) (cc (crc-is (s ++ t) long, take_at s t 510 h, behind 0, behind 1))
   where
     behind : (i : ℕ) → get_or (s ++ t) (510 + i) 0 ≡ get_or t i 0
@@ -122,7 +122,7 @@ fits s t h e =
 
 -- of two images that it says yes of, alike behind byte 509, and before it but for two neighbouring bytes, those two are alike as well
 pub never-unseen : (p q t : List ℕ) (a b c d : ℕ) → a < 256 → b < 256 → c < 256 → d < 256 → length (p ++ (a ∷ b ∷ q)) ≡ 510
-    → base_crc_of ((p ++ (a ∷ b ∷ q)) ++ t) ≡ gives true → base_crc_of ((p ++ (c ∷ d ∷ q)) ++ t) ≡ gives true → (a ≡ c) × (b ≡ d)
+    → base_crc_of ((p ++ (a ∷ b ∷ q)) ++ t) ≡ Ok true → base_crc_of ((p ++ (c ∷ d ∷ q)) ++ t) ≡ Ok true → (a ≡ c) × (b ≡ d)
 never-unseen p q t a b c d ha hb hc hd h e f =
     two_bytes p q a b c d ha hb hc hd
     (fits (p ++ (a ∷ b ∷ q)) t h e

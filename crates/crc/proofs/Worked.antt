@@ -1,11 +1,12 @@
 -- Document 02's example of 2026-03 and others, computed. Assumes nothing.
+use Rattle.std.specs.Prelude.{Err}
 use Prim.Native.Nat.{ℕ, zero, suc}
 use mathlib.Core.Path.{◌≡◌, refl, ap, ◌∙◌}
 use mathlib.Core.List.{List, [], ◌∷◌, ◌++◌}
 use lib.Dec.{ltb}
 use lib.ListN.{length, get_or, replicate}
 use Rattle.reading.specs.View.{View, view}
-use Rattle.reading.specs.Said.{refused}
+use Rattle.reading.specs.declared.Refusal.TheVariants.{Truncated}
 use Rattle.reading.specs.Ranges.{missing_at}
 use Rattle.crc.specs.Crc.{shifted, byte_in, crc_from, crc_of}
 use Rattle.crc.specs.Base.{crc_ranges, base_crc_of}
@@ -30,10 +31,10 @@ module _ (s : List ℕ) where
   abbrev sized : ℕ → View
   sized n = record { below = λ k. ltb n k; byte = λ i. get_or s i 0 }
 
-  pub crc-of-100 : length s ≡ 100 → base_crc_of s ≡ refused 1 100 0
+  pub crc-of-100 : length s ≡ 100 → base_crc_of s ≡ Err (Truncated 100)
   unfolding base_crc_of missing_at
   crc-of-100 e = crc-named (view s) 100 (ap (λ (n : ℕ). missing_at crc_ranges (sized n)) e)
 
-  pub crc-of-511 : length s ≡ 511 → base_crc_of s ≡ refused 1 511 0
+  pub crc-of-511 : length s ≡ 511 → base_crc_of s ≡ Err (Truncated 511)
   unfolding base_crc_of missing_at
   crc-of-511 e = crc-named (view s) 511 (ap (λ (n : ℕ). missing_at crc_ranges (sized n)) e)

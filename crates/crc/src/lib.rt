@@ -1,9 +1,9 @@
-// CRC-16 of JESD400-5, the check of the base block by it, and the sound one of two reads.
+//! CRC-16 of JESD400-5, the check of the base block by it, and the sound one of two reads.
 #![tactic(auto)]
 
-ghost use Rattle.std.specs.Prelude.{◌≡◌, [], ◌∷◌};
+ghost use Rattle.std.specs.Prelude.{◌≡◌, ◌≤◌, fold, length, take};
 ghost use Rattle.crc.specs.Crc.{byte_in, crc_from, crc_of};
-ghost use Rattle.crc.specs.Base.{base_crc_of, crc_said, sound_in, block_of, sound_read_of, sound_said};
+ghost use Rattle.crc.specs.Base.{base_crc_of, sound_in, block_of, sound_read_of};
 
 use reading::Refusal;
 
@@ -13,123 +13,108 @@ const OFF_STORED_CRC_LSB: usize = 510;
 const OFF_STORED_CRC_MSB: usize = 511;
 
 // What is read: where its one range starts and how many bytes it has; and how many bytes there are up to the last of them.
-const CRC_STARTS: [u16; 1] = [0];
+// Kept: `as`, since a constant may not call `usize::from`.
+const CRC_RANGES: [(u16, u16); 1] = [(0, 512)];
 
-const CRC_LENGTHS: [u16; 1] = [512];
+const CRC_BYTES: usize = CRC_RANGES[0].0 as usize + CRC_RANGES[0].1 as usize;
 
-const CRC_BYTES: usize = CRC_STARTS[0] as usize + CRC_LENGTHS[0] as usize;
-
-// Whether the CRC of a base block matches the one that is stored behind it.
-#[derive(Clone, Copy)]
-pub enum CrcAnswer {
-    Matches(bool),
-    Refused(Refusal),
-}
-
-// Which of two reads is the sound one.
-#[derive(Clone, Copy)]
+/// Which of two reads is the sound one.
+#[derive(Clone, Copy, Debug, PartialEq, Eq)]
 pub enum SoundRead {
     First,
     Second,
-    Refused(Refusal),
 }
 
-// The CRC of bytes.
+/// The CRC of bytes.
 pub fn crc16(bytes: &[u8]) -> u16
     ensures { result ≡ crc_of bytes.now }
 {
     crc16_from(0, bytes)
 }
 
-// The CRC of bytes that follow others, from the CRC of those: so it runs over pieces. Eight bytes at a time, then byte by byte.
+/// The CRC of bytes that follow others, from the CRC of those: so it runs over pieces. Eight bytes at a time, then byte by byte.
+#[tactic(auto, using(crate::proofs::Eights::eights))]
 pub fn crc16_from(before: u16, bytes: &[u8]) -> u16
     ensures { result ≡ crc_from before bytes.now }
 {
-    let n = bytes.len();
-    let mut crc = before;
-    let mut i: usize = 0;
-    while i + 8 <= n {
-        crc = step_eight(
-            crc,
-            bytes[i],
-            bytes[i + 1],
-            bytes[i + 2],
-            bytes[i + 3],
-            bytes[i + 4],
-            bytes[i + 5],
-            bytes[i + 6],
-            bytes[i + 7],
-        );
-        i += 8;
-    }
-    crc16_rest(crc, &bytes[i..])
+    let (eights, rest) = bytes.as_chunks::<8>();
+    crc16_rest(crc16_eights(before, eights), rest)
 }
 
-// The check of an image: the CRC of bytes 0 to 509 against the stored one.
-pub fn verify_base_crc(image: &[u8]) -> CrcAnswer
-    ensures { crc_said result ≡ base_crc_of image.now }
+/// The check of an image: the CRC of bytes 0 to 509 against the stored one.
+#[tactic(auto, using(crate::proofs::Refused::crc_long, crate::proofs::Refused::crc_short))]
+pub fn verify_base_crc(image: &[u8]) -> Result<bool, Refusal>
+    ensures { result ≡ base_crc_of image.now }
 {
     if image.len() < CRC_BYTES {
-        return CrcAnswer::Refused(reading::truncated(image, &CRC_STARTS, &CRC_LENGTHS));
+        return Err(reading::truncated_in(image, &CRC_RANGES));
     }
-    let computed = crc16(&image[..OFF_STORED_CRC_LSB]);
-    let low = reading::byte_or_zero(image, OFF_STORED_CRC_LSB) as u16;
-    let high = reading::byte_or_zero(image, OFF_STORED_CRC_MSB) as u16;
-    CrcAnswer::Matches(computed == low + 256 * high)
+    let stored = u16::from_le_bytes([image[OFF_STORED_CRC_LSB], image[OFF_STORED_CRC_MSB]]);
+    Ok(crc16(front(image, OFF_STORED_CRC_LSB)) == stored)
 }
 
-// The base block of the sound one of two reads: bytes 0 to 511 as a part of the caller's read, and an empty part where neither is sound.
+/// The base block of the sound one of two reads: bytes 0 to 511 as a part of the caller's read, and an empty part where neither is sound.
+#[tactic(auto, using(crate::proofs::Base::of_first, crate::proofs::Base::of_second, crate::proofs::Base::of_neither))]
 pub fn base_block<'a>(first: &'a [u8], second: &'a [u8]) -> &'a [u8]
     ensures { result.now ≡ block_of first.now second.now }
 {
-    if is_sound(first) {
-        return &first[..CRC_BYTES];
+    match sound_read(first, second) {
+        Ok(SoundRead::First) => front(first, CRC_BYTES),
+        Ok(SoundRead::Second) => front(second, CRC_BYTES),
+        Err(_) => &first[..0],
     }
-    if is_sound(second) {
-        return &second[..CRC_BYTES];
-    }
-    &first[..0]
 }
 
-// Which of two reads that block is of.
-pub fn sound_read(first: &[u8], second: &[u8]) -> SoundRead
-    ensures { sound_said result ≡ sound_read_of first.now second.now }
+/// Which of two reads that block is of.
+#[tactic(auto, unfolding(crate::specs::Base::sound_read_of))]
+pub fn sound_read(first: &[u8], second: &[u8]) -> Result<SoundRead, Refusal>
+    ensures { result ≡ sound_read_of first.now second.now }
 {
     if is_sound(first) {
-        return SoundRead::First;
+        Ok(SoundRead::First)
+    } else if is_sound(second) {
+        Ok(SoundRead::Second)
+    } else {
+        Err(Refusal::NeitherSound)
     }
-    if is_sound(second) {
-        return SoundRead::Second;
-    }
-    SoundRead::Refused(Refusal::NeitherSound)
 }
 
 // Whether a read is long enough and its CRC matches.
 fn is_sound(read: &[u8]) -> bool
     ensures { result ≡ sound_in read.now }
 {
-    match verify_base_crc(read) {
-        CrcAnswer::Matches(matches) => matches,
-        CrcAnswer::Refused(_) => false,
-    }
+    verify_base_crc(read).unwrap_or(false)
+}
+
+// The first bytes.
+fn front(bytes: &[u8], len: usize) -> &[u8]
+    requires { len ≤ length bytes.now }
+    ensures { result.now ≡ take len bytes.now }
+{
+    &bytes[..len]
+}
+
+// Eight bytes at a time.
+fn crc16_eights(before: u16, eights: &[[u8; 8]]) -> u16
+    ensures { result ≡ fold crc_from before eights.now }
+{
+    eights
+        .iter()
+        .fold(before, |crc, eight| step_eight(crc, eight))
 }
 
 // Byte by byte: at most seven are left.
 fn crc16_rest(before: u16, bytes: &[u8]) -> u16
     ensures { result ≡ crc_from before bytes.now }
 {
-    let mut crc = before;
-    for i in 0..bytes.len() {
-        crc = step(crc, bytes[i]);
-    }
-    crc
+    bytes.iter().fold(before, |crc, &byte| step(crc, byte))
 }
 
 // One byte, without a loop over its bits: x is the quotient of what leaves the register by the polynomial, and 0x1021 times x is what stays.
 fn step(crc: u16, byte: u8) -> u16
     ensures { result ≡ byte_in crc byte }
 {
-    let v = crc ^ ((byte as u16) << 8);
+    let v = crc ^ (u16::from(byte) << 8);
     let t = v >> 8;
     let x = t ^ (t >> 4);
     (v << 8) ^ ((x << 12) ^ (x << 5) ^ x)
@@ -137,18 +122,11 @@ fn step(crc: u16, byte: u8) -> u16
 
 // Eight bytes likewise, as one number of 64 bits with the register added to its front. The quotient by the polynomial comes from four lines,
 // each of which squares the factor of the one before.
-fn step_eight(crc: u16, b0: u8, b1: u8, b2: u8, b3: u8, b4: u8, b5: u8, b6: u8, b7: u8) -> u16
-    ensures { result ≡ crc_from crc (b0 ∷ b1 ∷ b2 ∷ b3 ∷ b4 ∷ b5 ∷ b6 ∷ b7 ∷ []) }
+// Kept: `as`, since the remainder is proved to fit, and `try_from` would add an error that cannot be.
+fn step_eight(crc: u16, eight: &[u8; 8]) -> u16
+    ensures { result ≡ crc_from crc eight.now }
 {
-    let word = ((b0 as u64) << 56)
-        ^ ((b1 as u64) << 48)
-        ^ ((b2 as u64) << 40)
-        ^ ((b3 as u64) << 32)
-        ^ ((b4 as u64) << 24)
-        ^ ((b5 as u64) << 16)
-        ^ ((b6 as u64) << 8)
-        ^ (b7 as u64);
-    let v = word ^ ((crc as u64) << 48);
+    let v = u64::from_be_bytes(*eight) ^ (u64::from(crc) << 48);
     let x1 = v ^ (v >> 4) ^ (v >> 11) ^ (v >> 16);
     let x2 = x1 ^ (x1 >> 8) ^ (x1 >> 22) ^ (x1 >> 32);
     let x4 = x2 ^ (x2 >> 16) ^ (x2 >> 44);

@@ -1,5 +1,6 @@
 -- Which refusals a DDR4 image gives: 1 exactly where a byte of its table is missing, with the smallest such offset, then that of the first
 -- check that refuses. What is decoded passed them all, so no time of its record was below zero. Assumes nothing.
+use Rattle.std.specs.Prelude.{Option, Some, None, Ok, Err}
 use Prim.Native.Nat.{ℕ, ◌≤◌}
 use mathlib.Core.Path.{◌≡◌, refl, sym, ap, subst, ◌∙◌}
 use mathlib.Core.List.{List, [], ◌∷◌}
@@ -10,10 +11,10 @@ use lib.IntN.{ℤ, pos, negsuc}
 use lib.Signed.{lt_z}
 use lib.Dec.{T, eqb}
 use Rattle.reading.specs.View.{View}
-use Rattle.reading.specs.Said.{Told, no, gives, refuses, refused}
+use Rattle.reading.specs.declared.Refusal.TheVariants.{Truncated}
+use Rattle.reading.specs.Refusal.{told}
+use Rattle.reading.specs.declared.Refusal.{Refusal}
 use Rattle.reading.specs.Ranges.{missing_at, whole}
-use Rattle.reading.specs.declared.Missing.{Missing}
-use Rattle.reading.specs.declared.Missing.TheVariants.{Nothing, At}
 use Rattle.reading.proofs.Reach.{by-missing}
 use Rattle.reading.proofs.Refused.{OfRefused}
 use Rattle.ddr4.specs.Times.{whole_of, tck_at, taa_at, trcd_at, trp_at, tras_at, trc_at}
@@ -22,21 +23,21 @@ use Rattle.ddr4.specs.declared.Ddr4.{Ddr4}
 use Rattle.ddr4.proofs.Checks.{given}
 
 -- P holds of what each check that refuses says
-abbrev pub OfChecks : (Told → Type 0) → List (Bool × Told) → Type 0
+abbrev pub OfChecks : (Refusal → Type 0) → List (Bool × Refusal) → Type 0
 OfChecks P [] = Unit {0}
 OfChecks P ((test, why) ∷ checks) = (test ≡ true → P why) × OfChecks P checks
 
-first-refusals : {A : Type 0} (P : Told → Type 0) (x : A) (checks : List (Bool × Told)) → OfChecks P checks → OfRefused P (first_of (gives x) checks)
+first-refusals : {A : Type 0} (P : Refusal → Type 0) (x : A) (checks : List (Bool × Refusal)) → OfChecks P checks → OfRefused P (first_of (Ok x) checks)
 first-refusals P x [] h = tt
 first-refusals P x ((true, why) ∷ checks) h = h.0 refl
 first-refusals P x ((false, why) ∷ checks) h = first-refusals P x checks h.1
 
 -- no check refuses
-abbrev pub Passes : List (Bool × Told) → Type 0
+abbrev pub Passes : List (Bool × Refusal) → Type 0
 Passes [] = Unit {0}
 Passes ((test, why) ∷ checks) = (test ≡ false) × Passes checks
 
-all_pass : {A : Type 0} (x : A) (checks : List (Bool × Told)) {d : A} → first_of (gives x) checks ≡ gives d → Passes checks
+all_pass : {A : Type 0} (x : A) (checks : List (Bool × Refusal)) {d : A} → first_of (Ok x) checks ≡ Ok d → Passes checks
 all_pass x [] e = tt
 all_pass x ((true, why) ∷ checks) e = absurd (let z : ◌≡◌ {A = ℕ} 0 1 = cc in omega arith)
 all_pass x ((false, why) ∷ checks) e = (refl, all_pass x checks e)
@@ -69,25 +70,25 @@ same-type n = back (eqb n 0x0C)
 
 module _ (v : View) where
   -- what holds of the refusal of a missing byte, and of each check, holds of every refusal
-  pub ddr4-refusals : (P : Told → Type 0) → ((i : ℕ) → missing_at ddr4_ranges v ≡ At i → P (no 1 i 0)) → OfChecks P (checks_at v) → OfRefused P (ddr4_at v)
+  pub ddr4-refusals : (P : Refusal → Type 0) → ((i : ℕ) → missing_at ddr4_ranges v ≡ Some i → P (Truncated i)) → OfChecks P (checks_at v) → OfRefused P (ddr4_at v)
   ddr4-refusals P of-missing of-checks = by-missing (missing_at ddr4_ranges v)
       (λ e. rw e (first-refusals P (record_at v) (checks_at v) of-checks))
       (λ i e. rw e (of-missing i e))
 
-  pub ddr4-named : (i : ℕ) → missing_at ddr4_ranges v ≡ At i → ddr4_at v ≡ refused 1 i 0
+  pub ddr4-named : (i : ℕ) → missing_at ddr4_ranges v ≡ Some i → ddr4_at v ≡ Err (Truncated i)
   ddr4-named i e = rw e refl
 
-  abbrev Missed : Told → Type 0
-  Missed t = t.number ≡ 1 → missing_at ddr4_ranges v ≡ At t.first
+  abbrev Missed : Refusal → Type 0
+  Missed t = (told t).number ≡ 1 → missing_at ddr4_ranges v ≡ Some (told t).first
 
-  pub ddr4-exactly : (t : Told) → ddr4_at v ≡ refuses t → Missed t
+  pub ddr4-exactly : (t : Refusal) → ddr4_at v ≡ Err t → Missed t
   ddr4-exactly t e = subst (OfRefused Missed) e (ddr4-refusals Missed (λ i m z. m) (λ _ z. absurd (omega arith), (λ _ z. absurd (omega arith), (λ _ z. absurd (omega arith), (λ _ z. absurd (omega arith), (λ _ z. absurd (omega arith), (λ _ z. absurd (omega arith), (λ _ z. absurd (omega arith), (λ _ z. absurd (omega arith), (λ _ z. absurd (omega arith), (λ _ z. absurd (omega arith), tt)))))))))))
 
-  checked : {d : Ddr4} (m : Missing) → whole refuses m (first_of (gives (record_at v)) (checks_at v)) ≡ gives d → first_of (gives (record_at v)) (checks_at v) ≡ gives d
-  checked Nothing e = e
-  checked (At i) e = absurd (let z : ◌≡◌ {A = ℕ} 0 1 = cc in omega arith)
+  checked : {d : Ddr4} (m : Option ℕ) → whole Err m (first_of (Ok (record_at v)) (checks_at v)) ≡ Ok d → first_of (Ok (record_at v)) (checks_at v) ≡ Ok d
+  checked None e = e
+  checked (Some i) e = absurd (let z : ◌≡◌ {A = ℕ} 0 1 = cc in omega arith)
 
-  pub decoded-sound : {d : Ddr4} → ddr4_at v ≡ gives d → Sound v d
+  pub decoded-sound : {d : Ddr4} → ddr4_at v ≡ Ok d → Sound v d
   decoded-sound {d} e =
       let f = checked (missing_at ddr4_ranges v) e in
       let r : record_at v ≡ d = given (record_at v) (checks_at v) f in

@@ -1,14 +1,14 @@
 -- Document 02, 2026-07: the record of a DDR4 image, its sizes and its times, and when it is refused instead. Assumes nothing.
-use Rattle.std.specs.Prelude.{ℕ, ◌*◌, ◌%◌, ◌^◌, List, [], ◌∷◌, ◌++◌, Bool, not, pos, eqb, ltb}
+use Rattle.std.specs.Prelude.{ℕ, ◌*◌, ◌%◌, ◌^◌, List, [], ◌∷◌, ◌++◌, Bool, not, pos, eqb, ltb, Ok, Err}
 use Rattle.std.specs.Int.Signed.{lt_z}
 use Rattle.reading.specs.Pick.{pick}
+use Rattle.reading.specs.declared.Refusal.TheVariants.{NegativeTime, NotDdr5, UnknownEnum}
 use Rattle.reading.specs.View.{View, view}
-use Rattle.reading.specs.Said.{Told, no, Said, gives, refuses, told}
+use Rattle.reading.specs.Refusal.{Answer}
+use Rattle.reading.specs.declared.Refusal.{Refusal}
 use Rattle.reading.specs.Ranges.{missing_at, whole}
 use Rattle.ddr4.specs.Times.{tck_at, taa_at, trcd_at, trp_at, tras_at, trc_at, whole_of}
 use Rattle.ddr4.specs.declared.Ddr4.{Ddr4}
-use Rattle.ddr4.specs.declared.Ddr4Answer.{Ddr4Answer}
-use Rattle.ddr4.specs.declared.Ddr4Answer.TheVariants as answer
 
 -- what is read, by its start and its number of bytes
 abbrev pub ddr4_ranges : List (ℕ × ℕ)
@@ -43,40 +43,36 @@ record_at v =
     }
 
 -- each check by when it refuses, and by what: the codes, field by field
-abbrev pub code_checks : View → List (Bool × Told)
+abbrev pub code_checks : View → List (Bool × Refusal)
 code_checks v =
-    (ltb 0 (timebase_at v), no 3 21 (timebase_at v))
-    ∷ (ltb 7 (density_at v), no 3 22 (density_at v))
-    ∷ (ltb 3 (io_width_at v), no 3 23 (io_width_at v))
-    ∷ (ltb 3 (bus_width_at v), no 3 24 (bus_width_at v))
+    (ltb 0 (timebase_at v), UnknownEnum 21 (timebase_at v))
+    ∷ (ltb 7 (density_at v), UnknownEnum 22 (density_at v))
+    ∷ (ltb 3 (io_width_at v), UnknownEnum 23 (io_width_at v))
+    ∷ (ltb 3 (bus_width_at v), UnknownEnum 24 (bus_width_at v))
     ∷ []
 
 -- the times, by their place in the order
-abbrev pub time_checks : View → List (Bool × Told)
+abbrev pub time_checks : View → List (Bool × Refusal)
 time_checks v =
-    (lt_z (tck_at v) (pos 0), no 15 1 0)
-    ∷ (lt_z (taa_at v) (pos 0), no 15 2 0)
-    ∷ (lt_z (trcd_at v) (pos 0), no 15 3 0)
-    ∷ (lt_z (trp_at v) (pos 0), no 15 4 0)
-    ∷ (lt_z (trc_at v) (pos 0), no 15 5 0)
+    (lt_z (tck_at v) (pos 0), NegativeTime 1)
+    ∷ (lt_z (taa_at v) (pos 0), NegativeTime 2)
+    ∷ (lt_z (trcd_at v) (pos 0), NegativeTime 3)
+    ∷ (lt_z (trp_at v) (pos 0), NegativeTime 4)
+    ∷ (lt_z (trc_at v) (pos 0), NegativeTime 5)
     ∷ []
 
 -- and before both the type
-abbrev pub checks_at : View → List (Bool × Told)
-checks_at v = (not (eqb (v.byte 2) 0x0C), no 2 (v.byte 2) 0) ∷ (code_checks v ++ time_checks v)
+abbrev pub checks_at : View → List (Bool × Refusal)
+checks_at v = (not (eqb (v.byte 2) 0x0C), NotDdr5 (v.byte 2)) ∷ (code_checks v ++ time_checks v)
 
 -- the first check that refuses, and what is good where none does
-abbrev pub first_of : {A : Type 0} → Said A → List (Bool × Told) → Said A
+abbrev pub first_of : {A : Type 0} → Answer A → List (Bool × Refusal) → Answer A
 first_of good [] = good
-first_of good ((test, why) ∷ checks) = pick test (refuses why) (first_of good checks)
+first_of good ((test, why) ∷ checks) = pick test (Err why) (first_of good checks)
 
 -- refused 1 where one of the bytes is missing, and then by the first check
-abbrev pub ddr4_at : View → Said Ddr4
-ddr4_at v = whole refuses (missing_at ddr4_ranges v) (first_of (gives (record_at v)) (checks_at v))
+abbrev pub ddr4_at : View → Answer Ddr4
+ddr4_at v = whole Err (missing_at ddr4_ranges v) (first_of (Ok (record_at v)) (checks_at v))
 
-unfoldable pub ddr4_of : List ℕ → Said Ddr4
+unfoldable pub ddr4_of : List ℕ → Answer Ddr4
 ddr4_of s = ddr4_at (view s)
-
-abbrev pub ddr4_said : Ddr4Answer → Said Ddr4
-ddr4_said (answer.Decoded d) = gives d
-ddr4_said (answer.Refused why) = refuses (told why)

@@ -1,40 +1,24 @@
--- The two halves of the record, each with its own checks. Only private functions promise in these terms. Assumes nothing.
-use Rattle.std.specs.Prelude.{◌*◌, ◌^◌}
-use Rattle.reading.specs.View.{View}
-use Rattle.reading.specs.Said.{Said, gives, refuses, told}
-use Rattle.ddr4.specs.Times.{whole_of, tck_at, taa_at, trcd_at, trp_at, tras_at, trc_at}
-use Rattle.ddr4.specs.Module.{density_at, io_width_at, bus_width_at, code_checks, time_checks, first_of}
-use Rattle.ddr4.specs.declared.Sizes.{Sizes}
-use Rattle.ddr4.specs.declared.SizesAnswer.{SizesAnswer}
-use Rattle.ddr4.specs.declared.SizesAnswer.TheVariants as sizes
-use Rattle.ddr4.specs.declared.Times.{Times}
-use Rattle.ddr4.specs.declared.TimesAnswer.{TimesAnswer}
-use Rattle.ddr4.specs.declared.TimesAnswer.TheVariants as times
+-- Each check by itself, with what is good where it passes. Only private functions promise in these terms. Assumes nothing.
+use Rattle.std.specs.Prelude.{ℕ, Bool, not, eqb, ltb, [], ◌∷◌, pos, Ok}
+use Rattle.std.specs.Int.Signed.{lt_z}
+use Rattle.reading.specs.Refusal.{Answer}
+use Rattle.reading.specs.declared.Refusal.{Refusal}
+use Rattle.reading.specs.declared.Refusal.TheVariants.{NegativeTime, NotDdr5, UnknownEnum}
+use Rattle.ddr4.specs.Times.{time_of, whole_of}
+use Rattle.ddr4.specs.Module.{first_of}
 
-abbrev pub sizes_in : View → Sizes
-sizes_in v = record { megabits = 256 * 2 ^ density_at v; io_width_bits = 4 * 2 ^ io_width_at v; bus_width_bits = 8 * 2 ^ bus_width_at v }
+-- one check alone
+abbrev pub checked : {A : Type 0} → A → Bool × Refusal → Answer A
+checked good check = first_of (Ok good) (check ∷ [])
 
-unfoldable pub sizes_at : View → Said Sizes
-sizes_at v = first_of (gives (sizes_in v)) (code_checks v)
+-- byte 2 says DDR4
+unfoldable pub ddr4_type_of : ℕ → Answer (Unit {0})
+ddr4_type_of byte2 = checked tt (not (eqb byte2 0x0C), NotDdr5 byte2)
 
-abbrev pub sizes_said : SizesAnswer → Said Sizes
-sizes_said (sizes.Decoded s) = gives s
-sizes_said (sizes.Refused why) = refuses (told why)
+-- a code that its field's table has, up to the last of it
+unfoldable pub code_of : (field last code : ℕ) → Answer ℕ
+code_of field last code = checked code (ltb last code, UnknownEnum field code)
 
-abbrev pub times_in : View → Times
-times_in v =
-    record {
-      tck = whole_of (tck_at v);
-      taa = whole_of (taa_at v);
-      trcd = whole_of (trcd_at v);
-      trp = whole_of (trp_at v);
-      tras = tras_at v;
-      trc = whole_of (trc_at v);
-    }
-
-unfoldable pub times_at : View → Said Times
-times_at v = first_of (gives (times_in v)) (time_checks v)
-
-abbrev pub times_said : TimesAnswer → Said Times
-times_said (times.Decoded t) = gives t
-times_said (times.Refused why) = refuses (told why)
+-- a time that is not below zero, in picoseconds
+unfoldable pub whole_time_of : (place units fine : ℕ) → Answer ℕ
+whole_time_of place units fine = checked (whole_of (time_of units fine)) (lt_z (time_of units fine) (pos 0), NegativeTime place)

@@ -1,12 +1,9 @@
-// DDR4 images: sizes, and times that are units of 125 ps with a signed fine byte.
+//! DDR4 images: sizes, and times that are units of 125 ps with a signed fine byte.
 #![tactic(auto)]
 
-ghost use Rattle.std.specs.Prelude.{◌≡◌, ◌+◌, ◌*◌, ◌%◌, ◌^◌, ◌<◌, ◌≤◌};
-ghost use Rattle.reading.specs.View.{view};
-ghost use Rattle.reading.specs.Said.{told, no};
-ghost use Rattle.ddr4.specs.Times.{fine_of, time_of, time_at, tras_at, trc_at};
-ghost use Rattle.ddr4.specs.Module.{ddr4_of, ddr4_said};
-ghost use Rattle.ddr4.specs.Parts.{sizes_at, sizes_said, times_at, times_said};
+ghost use Rattle.std.specs.Prelude.{◌≡◌, ◌+◌, ◌*◌, ◌^◌, ◌%◌, ◌<◌, ◌≤◌, IfOk};
+ghost use Rattle.ddr4.specs.Module.{ddr4_of};
+ghost use Rattle.ddr4.specs.Parts.{ddr4_type_of, code_of, whole_time_of};
 
 use reading::Refusal;
 
@@ -21,18 +18,71 @@ const OFF_BUS_WIDTH: usize = 13;
 
 const OFF_TIMEBASE: usize = 17;
 
+const OFF_TCK: usize = 18;
+
+const OFF_TAA: usize = 24;
+
+const OFF_TRCD: usize = 25;
+
+const OFF_TRP: usize = 26;
+
+const OFF_TRAS_TRC_HIGH: usize = 27;
+
+const OFF_TRAS: usize = 28;
+
+const OFF_TRC: usize = 29;
+
+const OFF_TRC_FINE: usize = 120;
+
+const OFF_TRP_FINE: usize = 121;
+
+const OFF_TRCD_FINE: usize = 122;
+
+const OFF_TAA_FINE: usize = 123;
+
+const OFF_TCK_FINE: usize = 125;
+
 // What is read: where each range starts and how many bytes it has; and how many bytes there are up to the last of them.
-const DDR4_STARTS: [u16; 7] = [2, 4, 12, 17, 24, 120, 125];
+const DDR4_RANGES: [(u16, u16); 7] = [
+    (2, 1),
+    (4, 1),
+    (12, 2),
+    (17, 2),
+    (24, 6),
+    (120, 4),
+    (125, 1),
+];
 
-const DDR4_LENGTHS: [u16; 7] = [1, 1, 2, 2, 6, 4, 1];
-
-const DDR4_BYTES: usize = DDR4_STARTS[6] as usize + DDR4_LENGTHS[6] as usize;
+const DDR4_BYTES: usize = OFF_TCK_FINE + 1;
 
 // What byte 2 of a DDR4 image is.
 const DEVICE_DDR4: u8 = 0x0C;
 
-// The decoded image; times in picoseconds.
-#[derive(Clone, Copy)]
+// A unit of time, in picoseconds.
+const UNIT: u16 = 125;
+
+// What refusal 3 calls each field, and refusal 15 each time.
+// Kept: numbers, since the refusals are public and carry what documents 01 and 02 call a field and a time.
+const FIELD_TIMEBASE: u8 = 21;
+
+const FIELD_DENSITY: u8 = 22;
+
+const FIELD_IO_WIDTH: u8 = 23;
+
+const FIELD_BUS_WIDTH: u8 = 24;
+
+const PLACE_TCK: u8 = 1;
+
+const PLACE_TAA: u8 = 2;
+
+const PLACE_TRCD: u8 = 3;
+
+const PLACE_TRP: u8 = 4;
+
+const PLACE_TRC: u8 = 5;
+
+/// The decoded image; times in picoseconds.
+#[derive(Clone, Copy, Debug, PartialEq, Eq)]
 pub struct Ddr4 {
     pub megabits: u32,
     pub io_width_bits: u16,
@@ -45,219 +95,106 @@ pub struct Ddr4 {
     pub trc: u32,
 }
 
-#[derive(Clone, Copy)]
-pub enum Ddr4Answer {
-    Decoded(Ddr4),
-    Refused(Refusal),
-}
-
-// Its two halves.
-#[derive(Clone, Copy)]
-struct Sizes {
-    megabits: u32,
-    io_width_bits: u16,
-    bus_width_bits: u16,
-}
-
-#[derive(Clone, Copy)]
-enum SizesAnswer {
-    Decoded(Sizes),
-    Refused(Refusal),
-}
-
-#[derive(Clone, Copy)]
-struct Times {
-    tck: u32,
-    taa: u32,
-    trcd: u32,
-    trp: u32,
-    tras: u32,
-    trc: u32,
-}
-
-#[derive(Clone, Copy)]
-enum TimesAnswer {
-    Decoded(Times),
-    Refused(Refusal),
-}
-
-// The sizes and times of an image.
-pub fn decode_ddr4(image: &[u8]) -> Ddr4Answer
-    ensures { ddr4_said result ≡ ddr4_of image.now }
+/// The sizes and times of an image.
+// Compiled into each of its callers, so that no record goes through memory.
+#[inline(always)]
+#[tactic(auto, using(crate::proofs::Steps::ddr4_short, crate::proofs::Steps::ddr4_steps))]
+pub fn decode_ddr4(image: &[u8]) -> Result<Ddr4, Refusal>
+    ensures { result ≡ ddr4_of image.now }
 {
     if image.len() < DDR4_BYTES {
-        return Ddr4Answer::Refused(reading::truncated(image, &DDR4_STARTS, &DDR4_LENGTHS));
+        return Err(reading::truncated_in(image, &DDR4_RANGES));
     }
-    let byte2 = reading::byte_or_zero(image, OFF_DEVICE_TYPE);
+
+    check_device_type(image[OFF_DEVICE_TYPE])?;
+    decode_code(FIELD_TIMEBASE, bits_3_0(image[OFF_TIMEBASE]), 0)?;
+    let density = decode_code(FIELD_DENSITY, bits_3_0(image[OFF_DENSITY]), 7)?;
+    let io_width = decode_code(FIELD_IO_WIDTH, bits_2_0(image[OFF_IO_WIDTH]), 3)?;
+    let bus_width = decode_code(FIELD_BUS_WIDTH, bits_2_0(image[OFF_BUS_WIDTH]), 3)?;
+    let tck = decode_time(PLACE_TCK, image[OFF_TCK].into(), image[OFF_TCK_FINE])?;
+    let taa = decode_time(PLACE_TAA, image[OFF_TAA].into(), image[OFF_TAA_FINE])?;
+    let trcd = decode_time(PLACE_TRCD, image[OFF_TRCD].into(), image[OFF_TRCD_FINE])?;
+    let trp = decode_time(PLACE_TRP, image[OFF_TRP].into(), image[OFF_TRP_FINE])?;
+    let high_halves = image[OFF_TRAS_TRC_HIGH];
+    let trc_units = joined(image[OFF_TRC], high_halves >> 4);
+    let trc = decode_time(PLACE_TRC, trc_units, image[OFF_TRC_FINE])?;
+    // tRAS has no fine byte.
+    let tras_units = joined(image[OFF_TRAS], bits_3_0(high_halves));
+
+    Ok(Ddr4 {
+        megabits: doubled(256, density).into(),
+        io_width_bits: doubled(4, io_width),
+        bus_width_bits: doubled(8, bus_width),
+        tck,
+        taa,
+        trcd,
+        trp,
+        tras: u32::from(UNIT) * u32::from(tras_units),
+        trc,
+    })
+}
+
+// Byte 2: DDR4 alone.
+#[tactic(auto, unfolding(crate::specs::Parts::ddr4_type_of))]
+fn check_device_type(byte2: u8) -> Result<(), Refusal>
+    ensures { result ≡ ddr4_type_of byte2 }
+{
     if byte2 != DEVICE_DDR4 {
-        return Ddr4Answer::Refused(Refusal::NotDdr5(byte2));
+        return Err(Refusal::NotDdr5(byte2));
     }
-    let sizes = match decode_sizes(image) {
-        SizesAnswer::Decoded(half) => half,
-        SizesAnswer::Refused(why) => return Ddr4Answer::Refused(why),
-    };
-    let times = match decode_times(image) {
-        TimesAnswer::Decoded(half) => half,
-        TimesAnswer::Refused(why) => return Ddr4Answer::Refused(why),
-    };
-    Ddr4Answer::Decoded(Ddr4 {
-        megabits: sizes.megabits,
-        io_width_bits: sizes.io_width_bits,
-        bus_width_bits: sizes.bus_width_bits,
-        tck: times.tck,
-        taa: times.taa,
-        trcd: times.trcd,
-        trp: times.trp,
-        tras: times.tras,
-        trc: times.trc,
-    })
+    Ok(())
 }
 
-// The sizes, or the first code that stands for nothing.
-#[tactic(auto, unfolding(crate::specs::Parts::sizes_at))]
-fn decode_sizes(image: &[u8]) -> SizesAnswer
-    ensures { sizes_said result ≡ sizes_at (view image.now) }
+// Bits 3-0 of a byte.
+fn bits_3_0(byte: u8) -> u8
+    ensures { result ≡ byte % 16 }
 {
-    let timebase = code_at(image, OFF_TIMEBASE, 16);
-    if 0 < timebase {
-        return SizesAnswer::Refused(unknown(21, timebase));
-    }
-    let density = code_at(image, OFF_DENSITY, 16);
-    if 7 < density {
-        return SizesAnswer::Refused(unknown(22, density));
-    }
-    let io_width = code_at(image, OFF_IO_WIDTH, 8);
-    if 3 < io_width {
-        return SizesAnswer::Refused(unknown(23, io_width));
-    }
-    let bus_width = code_at(image, OFF_BUS_WIDTH, 8);
-    if 3 < bus_width {
-        return SizesAnswer::Refused(unknown(24, bus_width));
-    }
-    SizesAnswer::Decoded(Sizes {
-        megabits: doubled(256, density),
-        io_width_bits: doubled_bits(4, io_width),
-        bus_width_bits: doubled_bits(8, bus_width),
-    })
+    byte & 0x0F
 }
 
-// The times, or the first that is below zero.
-#[tactic(auto, unfolding(crate::specs::Parts::times_at))]
-fn decode_times(image: &[u8]) -> TimesAnswer
-    ensures { times_said result ≡ times_at (view image.now) }
+// Bits 2-0. Kept: beside `bits_3_0`, since one function of a mask would be `&` by another name.
+fn bits_2_0(byte: u8) -> u8
+    ensures { result ≡ byte % 8 }
 {
-    let tck = time_at(image, 18, 125);
-    if tck < 0 {
-        return TimesAnswer::Refused(Refusal::NegativeTime(1));
-    }
-    let taa = time_at(image, 24, 123);
-    if taa < 0 {
-        return TimesAnswer::Refused(Refusal::NegativeTime(2));
-    }
-    let trcd = time_at(image, 25, 122);
-    if trcd < 0 {
-        return TimesAnswer::Refused(Refusal::NegativeTime(3));
-    }
-    let trp = time_at(image, 26, 121);
-    if trp < 0 {
-        return TimesAnswer::Refused(Refusal::NegativeTime(4));
-    }
-    let trc = trc_at(image);
-    if trc < 0 {
-        return TimesAnswer::Refused(Refusal::NegativeTime(5));
-    }
-    TimesAnswer::Decoded(Times {
-        tck: tck as u32,
-        taa: taa as u32,
-        trcd: trcd as u32,
-        trp: trp as u32,
-        tras: tras_at(image),
-        trc: trc as u32,
-    })
+    byte & 0x07
 }
 
-// A code is the low bits of a byte: the rest by how many codes there are.
-fn code_at(image: &[u8], offset: usize, codes: u8) -> u8
-    requires { 0 < codes }
-    ensures { (result ≡ (view image.now).byte offset % codes) × (result < codes) }
+// The code of a field, which its table must have: the table goes from 0 to `last`.
+#[tactic(auto, unfolding(crate::specs::Parts::code_of))]
+fn decode_code(field: u8, code: u8, last: u8) -> Result<u8, Refusal>
+    ensures answer { result ≡ code_of field last code }
+    ensures few { IfOk result (λ code. code ≤ last) }
 {
-    reading::byte_or_zero(image, offset) % codes
-}
-
-fn unknown(field: u8, value: u8) -> Refusal
-    ensures { told result ≡ no 3 field value }
-{
-    Refusal::UnknownEnum { field, value }
+    if last < code {
+        return Err(Refusal::UnknownEnum { field, value: code });
+    }
+    Ok(code)
 }
 
 // A first size, doubled as often as a code says.
-fn doubled(first: u32, code: u8) -> u32
-    requires { (first ≤ 256) × (code < 16) }
+fn doubled(first: u16, code: u8) -> u16
+    requires { (first ≤ 256) × (code < 8) }
     ensures { result ≡ first * 2 ^ code }
 {
     first << code
 }
 
-fn doubled_bits(first: u16, code: u8) -> u16
-    requires { (first ≤ 8) × (code < 8) }
-    ensures { result ≡ first * 2 ^ code }
+// A time in picoseconds, of units and a signed fine byte; it must not be below zero. Kept: `as`, since it is proved to fit then.
+#[tactic(auto, unfolding(crate::specs::Parts::whole_time_of))]
+fn decode_time(place: u8, units: u16, fine: u8) -> Result<u32, Refusal>
+    ensures { result ≡ whole_time_of place units fine }
 {
-    first << code
+    let ps = i32::from(UNIT) * i32::from(units) + i32::from(fine.cast_signed());
+    if ps < 0 {
+        return Err(Refusal::NegativeTime(place));
+    }
+    Ok(ps as u32)
 }
 
-// Units in the byte at one offset, and the fine byte at another.
-fn time_at(image: &[u8], units: usize, fine_offset: usize) -> i32
-    ensures { result ≡ time_at units fine_offset (view image.now) }
-{
-    time(
-        reading::byte_or_zero(image, units) as u16,
-        reading::byte_or_zero(image, fine_offset),
-    )
-}
-
-// tRC: the high half of byte 27 stands above byte 29.
-fn trc_at(image: &[u8]) -> i32
-    ensures { result ≡ trc_at (view image.now) }
-{
-    let units = long_units(
-        reading::byte_or_zero(image, 29),
-        reading::byte_or_zero(image, 27) / 16,
-    );
-    time(units, reading::byte_or_zero(image, 120))
-}
-
-// tRAS: the low half of byte 27 stands above byte 28, and there is no fine byte.
-fn tras_at(image: &[u8]) -> u32
-    ensures { result ≡ tras_at (view image.now) }
-{
-    let units = long_units(
-        reading::byte_or_zero(image, 28),
-        reading::byte_or_zero(image, 27) % 16,
-    );
-    125 * (units as u32)
-}
-
-fn long_units(low: u8, high: u8) -> u16
+// A byte and the half byte above it.
+fn joined(low: u8, high: u8) -> u16
     requires { high < 16 }
     ensures { result ≡ low + 256 * high }
 {
-    low as u16 + 256 * (high as u16)
-}
-
-// Units and a fine byte, in picoseconds.
-fn time(units: u16, byte: u8) -> i32
-    ensures { result ≡ time_of units byte }
-{
-    125 * (units as i32) + fine(byte)
-}
-
-// A fine byte as a signed number, from -128 to 127.
-fn fine(byte: u8) -> i32
-    ensures { result ≡ fine_of byte }
-{
-    if byte < 128 {
-        byte as i32
-    } else {
-        byte as i32 - 256
-    }
+    u16::from_le_bytes([low, high])
 }

@@ -1,5 +1,5 @@
 pub mod Few
-pub mod Once
 pub mod Reach
 pub mod Widths
 pub mod Worked
+pub mod Once

@@ -2,7 +2,7 @@
 use mathlib.Core.Path.{ap}
 use mathlib.Core.List.{[]}
 use Rattle.reading.specs.View.{Within}
-use Rattle.reading.specs.Said.{onward}
+use Rattle.reading.specs.Refusal.{onward}
 use Rattle.reading.specs.Ranges.{reach_of, Only}
 use Rattle.reading.proofs.Reach.{only-within}
 use Rattle.ddr4.specs.Module.{ddr4_ranges}

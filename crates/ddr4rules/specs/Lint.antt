@@ -1,21 +1,19 @@
 -- Document 02, 2026-07: the findings of a DDR4 image. Three of DDR5's own rules on the DDR4 record, in order; none where the image is refused.
 -- Assumes nothing.
-use Rattle.std.specs.Prelude.{ℕ, List, [], ◌∷◌, ltb, length}
+use Rattle.std.specs.Prelude.{ℕ, List, [], ◌∷◌, ltb, length, Ok, Err}
 use Rattle.reading.specs.Pick.{pick}
+use Rattle.reading.specs.declared.Refusal.TheVariants.{ListTooShort}
 use Rattle.reading.specs.View.{View, view}
-use Rattle.reading.specs.Said.{Said, gives, refuses, refused, onward, told}
+use Rattle.reading.specs.Refusal.{Answer, onward}
 use Rattle.findings.specs.declared.Finding.{Finding}
-use Rattle.findings.specs.declared.Findings.{Findings}
 use Rattle.findings.specs.Hold.{cat, holding}
-use Rattle.ddr4.specs.Module.{ddr4_at, ddr4_of, ddr4_said}
+use Rattle.ddr4.specs.Module.{ddr4_at, ddr4_of}
 use Rattle.ddr4.specs.declared.Ddr4.{Ddr4}
 use Rattle.rules.specs.Rules.{device_count, ordering}
 use Rattle.rules.specs.declared.TimingOrder.TheVariants.{RasGeRcd, RcGeRas}
 use Rattle.ddr4rules.specs.declared.Ddr4Checked.{Ddr4Checked}
 use Rattle.ddr4rules.specs.declared.Ddr4Linted.{Ddr4Linted}
 use Rattle.ddr4rules.specs.declared.Ddr4Records.{Ddr4Records}
-use Rattle.ddr4rules.specs.declared.Ddr4LintAnswer.{Ddr4LintAnswer}
-use Rattle.ddr4rules.specs.declared.Ddr4LintAnswer.TheVariants as answer
 
 -- what each rule says of a record
 abbrev pub ddr4_says : Ddr4 → Ddr4Checked
@@ -40,25 +38,14 @@ unfoldable pub ddr4_findings_of : List ℕ → List Finding
 ddr4_findings_of s = ddr4_lint_at (view s)
 
 -- an image's lint by value: what the decoder says, and the findings
-pub record Ddr4Lint : Type 0 where
-  pub ddr4 : Said Ddr4
-  pub findings : Findings
-
-abbrev pub ddr4_lint_of : List ℕ → Ddr4Lint
+abbrev pub ddr4_lint_of : List ℕ → Ddr4Linted
 ddr4_lint_of s = record { ddr4 = ddr4_of s; findings = holding (ddr4_findings_of s) }
 
-abbrev pub ddr4_lint_said : Ddr4Linted → Ddr4Lint
-ddr4_lint_said r = record { ddr4 = ddr4_said r.ddr4; findings = r.findings }
-
 -- the same with the findings in a lent list of so many places: refusal 4 under fifteen, then the decoder's; else the record, and their count
-abbrev pub ddr4_replied : (len : ℕ) → Ddr4Lint → Said Ddr4Records
+abbrev pub ddr4_replied : (len : ℕ) → Ddr4Linted → Answer Ddr4Records
 ddr4_replied len l =
-    pick (ltb len 15) (refused 4 0 0)
-    (onward refuses l.ddr4 (λ d. gives (record { ddr4 = d; count = l.findings.count })))
+    pick (ltb len 15) (Err ListTooShort)
+    (onward Err l.ddr4 (λ d. Ok (record { ddr4 = d; count = l.findings.count })))
 
-unfoldable pub ddr4_answer_of : List ℕ → List Finding → Said Ddr4Records
+unfoldable pub ddr4_answer_of : List ℕ → List Finding → Answer Ddr4Records
 ddr4_answer_of s list = ddr4_replied (length list) (ddr4_lint_of s)
-
-abbrev pub ddr4_answer_said : Ddr4LintAnswer → Said Ddr4Records
-ddr4_answer_said (answer.Listed r) = gives r
-ddr4_answer_said (answer.Refused why) = refuses (told why)

@@ -39,13 +39,7 @@ at_once tck time = let both : time * 997 / tck / 1000 ≡ time * 997 / (tck * 10
 
 -- the count is itself a smallest one: of the n with n * tCK above 997 thousandths of the time
 pub guarded : (tck time : ℕ) → 0 < tck → Smallest (tck * 1000) (time * 997 + 1) (clocks_of tck time)
-guarded tck time pos =
-    let once = at_once tck time in
-    let most : 0 < tck * 1000 = omega arith in
-    record {
-      reaches = let over : time * 997 < clocks_of tck time * (tck * 1000) = (div-lt_iff_lt-mul most).0 (omega (arith, once)) in omega (arith, over);
-      least = λ m h. let below : time * 997 / (tck * 1000) < m = (div-lt_iff_lt-mul most).1 (omega arith) in omega (arith, once, below);
-    }
+guarded tck time pos = grind (arith, at_once, div-lt_iff_lt-mul)
 
 module _ (tck time : ℕ) (pos : 0 < tck) where
   pub never-above : 0 < time → clocks_of tck time ≤ smallest_of tck time

@@ -1,7 +1,6 @@
 pub mod Fields
 pub mod Listing
 pub mod Least
-pub mod Once
 pub mod Reach
 pub mod Refused
 pub mod Named

@@ -1,13 +1,15 @@
 -- Which refusals a decoder gives: 1 exactly where a byte of its table is missing, with the smallest such offset. Assumes nothing.
+use Rattle.std.specs.Prelude.{Some, Err}
 use Prim.Native.Nat.{ℕ, ◌/◌, ◌%◌, ◌<◌, ◌≤◌}
 use mathlib.Core.Path.{◌≡◌, refl, subst}
 use mathlib.Core.List.{List, [], ◌∷◌}
 use native.Mathlib.Omega.{arith}
 use lib.Dec.{eqb}
 use Rattle.reading.specs.View.{View}
-use Rattle.reading.specs.Said.{Told, no, refuses, refused}
+use Rattle.reading.specs.declared.Refusal.TheVariants.{NotDdr5, Truncated, UnknownEnum}
+use Rattle.reading.specs.Refusal.{told}
+use Rattle.reading.specs.declared.Refusal.{Refusal}
 use Rattle.reading.specs.Ranges.{missing_at}
-use Rattle.reading.specs.declared.Missing.TheVariants.{At}
 use Rattle.reading.proofs.Picked.{either}
 use Rattle.reading.proofs.Reach.{by-missing}
 use Rattle.reading.proofs.Refused.{OfRefused, onward-refused}
@@ -17,8 +19,8 @@ use Rattle.decoders.specs.Identity.{identity_ranges, identity_at}
 use Rattle.decoders.specs.Timing.{timing_ranges, timings_at}
 
 -- what holds of the refusal of a missing byte, of another device type and of each unknown code, holds of every refusal
-module _ (P : Told → Type 0) (v : View) where
-  module _ (of-type : P (no 2 (v.byte 2) 0)) (of_code : (field code : ℕ) → field ≤ 9 → code < 32 → P (no 3 field code)) where
+module _ (P : Refusal → Type 0) (v : View) where
+  module _ (of-type : P (NotDdr5 (v.byte 2))) (of_code : (field code : ℕ) → field ≤ 9 → code < 32 → P (UnknownEnum field code)) where
     in_table : {A : Type 0} (field : ℕ) (rows : List (ℕ × A)) (code : ℕ) → field ≤ 9 → code < 32 → OfRefused P (meant field rows code)
     in_table field [] code h k = of_code field code h k
     in_table field ((n, x) ∷ rows) code h k = either (OfRefused P) (eqb code n) tt (in_table field rows code h k)
@@ -27,7 +29,7 @@ module _ (P : Told → Type 0) (v : View) where
     unfolding device_of
     device = either (OfRefused P) (eqb (v.byte 2) 0x12) tt of-type
 
-    pub identity-refusals : ((i : ℕ) → missing_at identity_ranges v ≡ At i → P (no 1 i 0)) → OfRefused P (identity_at v)
+    pub identity-refusals : ((i : ℕ) → missing_at identity_ranges v ≡ Some i → P (Truncated i)) → OfRefused P (identity_at v)
     unfolding size_of module_of density_of package_of io_width_of bank_groups_of banks_of bus_width_of channels_of
     identity-refusals of-missing = by-missing (missing_at identity_ranges v)
         (λ e. rw e
@@ -43,24 +45,24 @@ module _ (P : Told → Type 0) (v : View) where
         onward-refused P (channels_of (v.byte 235 / 32 % 8)) _ (in_table 9 channel_table (v.byte 235 / 32 % 8) (omega arith) (omega arith)) (λ c. tt))))))))))))
         (λ i e. rw e (of-missing i e))
 
-  pub timings-refusals : ((i : ℕ) → missing_at timing_ranges v ≡ At i → P (no 1 i 0)) → OfRefused P (timings_at v)
+  pub timings-refusals : ((i : ℕ) → missing_at timing_ranges v ≡ Some i → P (Truncated i)) → OfRefused P (timings_at v)
   timings-refusals of-missing = by-missing (missing_at timing_ranges v) (λ e. rw e tt) (λ i e. rw e (of-missing i e))
 
 -- refused 1 exactly where a byte is missing, which is the one that is named
 module _ (v : View) where
-  pub identity-named : (i : ℕ) → missing_at identity_ranges v ≡ At i → identity_at v ≡ refused 1 i 0
+  pub identity-named : (i : ℕ) → missing_at identity_ranges v ≡ Some i → identity_at v ≡ Err (Truncated i)
   identity-named i e = rw e refl
 
-  pub timings-named : (i : ℕ) → missing_at timing_ranges v ≡ At i → timings_at v ≡ refused 1 i 0
+  pub timings-named : (i : ℕ) → missing_at timing_ranges v ≡ Some i → timings_at v ≡ Err (Truncated i)
   timings-named i e = rw e refl
 
-  abbrev Named : List (ℕ × ℕ) → Told → Type 0
-  Named ranges t = t.number ≡ 1 → missing_at ranges v ≡ At t.first
+  abbrev Named : List (ℕ × ℕ) → Refusal → Type 0
+  Named ranges t = (told t).number ≡ 1 → missing_at ranges v ≡ Some (told t).first
 
-  pub identity-exactly : (t : Told) → identity_at v ≡ refuses t → Named identity_ranges t
+  pub identity-exactly : (t : Refusal) → identity_at v ≡ Err t → Named identity_ranges t
   identity-exactly t e =
       subst (OfRefused (Named identity_ranges)) e
       (identity-refusals (Named identity_ranges) v (λ z. absurd (omega arith)) (λ field code h k z. absurd (omega arith)) (λ i m z. m))
 
-  pub timings-exactly : (t : Told) → timings_at v ≡ refuses t → Named timing_ranges t
+  pub timings-exactly : (t : Refusal) → timings_at v ≡ Err t → Named timing_ranges t
   timings-exactly t e = subst (OfRefused (Named timing_ranges)) e (timings-refusals (Named timing_ranges) v (λ i m z. m))

@@ -1,9 +1,11 @@
 -- Document 01, "CAS set": bytes 24 to 28 joined low byte first into a 40-bit mask. Bit k stands for CL 20 + 2k; a bit past 39 never counts.
 -- Assumes nothing.
-use Rattle.std.specs.Prelude.{ℕ, zero, suc, ◌+◌, ◌-◌, ◌*◌, ◌/◌, ◌%◌, ◌^◌, Bool, List, [], ◌∷◌, length, leb, ltb, eqb}
+use Rattle.std.specs.Prelude.{ℕ, ◌+◌, ◌-◌, ◌*◌, ◌/◌, ◌%◌, ◌^◌, Bool, List, length, filter, map, leb, ltb, eqb, Ok, Err}
+use Rattle.std.specs.List.{range_with_len}
 use Rattle.reading.specs.Pick.{pick, and}
+use Rattle.reading.specs.declared.Refusal.TheVariants.{ListTooShort}
 use Rattle.reading.specs.Lent.{listed}
-use Rattle.reading.specs.Said.{Said, gives, refused}
+use Rattle.reading.specs.Refusal.{Answer}
 use Rattle.decoders.specs.declared.timing.CasLatencies.{CasLatencies}
 
 abbrev pub cas_of : (b0 b1 b2 b3 b4 : ℕ) → CasLatencies
@@ -21,18 +23,17 @@ in_set set cl =
     (and (ltb ((cl - 20) / 2) 40)
     (bit_set set.0 ((cl - 20) / 2))))
 
--- those of the latencies of n bits from bit k on that are in the set
-abbrev pub list_from : CasLatencies → ℕ → ℕ → List ℕ
-list_from set k zero = []
-list_from set k (suc n) = pick (in_set set (20 + 2 * k)) ((20 + 2 * k) ∷ list_from set (suc k) n) (list_from set (suc k) n)
+-- of the latencies of the first n bits, 20, 22, .., those in the set
+unfoldable pub first_latencies : CasLatencies → (n : ℕ) → List ℕ
+first_latencies set n = filter (in_set set) (map (λ bit. 20 + 2 * bit) (range_with_len 0 n))
 
 -- the ascending list: of the latencies 20, 22, .. 98, those in the set
 unfoldable pub cas_list : CasLatencies → List ℕ
-cas_list set = list_from set 0 40
+cas_list set = first_latencies set 40
 
 -- refusal 4 under 40 places, and else the count
-unfoldable pub cas_list_of : CasLatencies → List ℕ → Said ℕ
-cas_list_of set out = pick (ltb (length out) 40) (refused 4 0 0) (gives (length (cas_list set)))
+unfoldable pub cas_list_of : CasLatencies → List ℕ → Answer ℕ
+cas_list_of set out = pick (ltb (length out) 40) (Err ListTooShort) (Ok (length (cas_list set)))
 
 -- the lent list afterwards: the latencies in the first places, and as it was under 40
 unfoldable pub cas_list_after : CasLatencies → List ℕ → List ℕ

@@ -1,7 +1,8 @@
 -- Document 02, 2026-06: a time in clocks is (time * 997 / tCK + 1000) / 1000, each division rounded down. Assumes nothing.
-use Rattle.std.specs.Prelude.{ℕ, ◌+◌, ◌*◌, ◌/◌, ◌%◌, ◌≤◌, eqb}
+use Rattle.std.specs.Prelude.{ℕ, ◌+◌, ◌*◌, ◌/◌, ◌%◌, ◌≤◌, eqb, Ok, Err}
 use Rattle.reading.specs.Pick.{pick}
-use Rattle.reading.specs.Said.{Said, gives, refused}
+use Rattle.reading.specs.declared.Refusal.TheVariants.{ZeroClock}
+use Rattle.reading.specs.Refusal.{Answer}
 use Rattle.decoders.specs.declared.timing.Timings.{Timings}
 use Rattle.decoders.specs.declared.clocks.ClockTable.{ClockTable}
 
@@ -9,10 +10,10 @@ abbrev pub clocks_of : (tck time : ℕ) → ℕ
 clocks_of tck time = (time * 997 / tck + 1000) / 1000
 
 -- of the nine times; refusal 7 with tCK 0
-unfoldable pub clock_table_of : Timings → Said ClockTable
+unfoldable pub clock_table_of : Timings → Answer ClockTable
 clock_table_of t =
-    pick (eqb t.tckavg_min.0 0) (refused 7 0 0)
-    (gives (record {
+    pick (eqb t.tckavg_min.0 0) (Err ZeroClock)
+    (Ok (record {
       taa = clocks_of t.tckavg_min.0 t.taa.0;
       trcd = clocks_of t.tckavg_min.0 t.trcd.0;
       trp = clocks_of t.tckavg_min.0 t.trp.0;

@@ -1,7 +1,8 @@
 -- Document 01, "Identity": the bytes that are read, and then the checks in the table's order. Assumes nothing.
-use Rattle.std.specs.Prelude.{ℕ, ◌+◌, ◌/◌, ◌%◌, List, [], ◌∷◌, eqb}
+use Rattle.std.specs.Prelude.{ℕ, ◌+◌, ◌/◌, ◌%◌, List, [], ◌∷◌, eqb, Ok, Err}
 use Rattle.reading.specs.View.{View, view}
-use Rattle.reading.specs.Said.{Told, Said, gives, refuses, onward}
+use Rattle.reading.specs.Refusal.{Answer, onward}
+use Rattle.reading.specs.declared.Refusal.{Refusal}
 use Rattle.reading.specs.Ranges.{missing_at, whole}
 use Rattle.decoders.specs.Codes.{size_of, revision_of, device_of, module_of, density_of, package_of, io_width_of, bank_groups_of, banks_of, bus_width_of, channels_of}
 use Rattle.decoders.specs.declared.identity.IdentityBytes.{IdentityBytes}
@@ -30,7 +31,7 @@ bytes_at v =
     }
 
 -- the chain of checks in three parts, for whatever is made of a refusal (stop) and of the part's record (good)
-abbrev pub base_with : {X : Type 0} → (Told → X) → (Base → X) → IdentityBytes → X
+abbrev pub base_with : {X : Type 0} → (Refusal → X) → (Base → X) → IdentityBytes → X
 base_with stop good b =
     onward stop (size_of (b.spd_size / 16 % 8)) (λ size.
     onward stop (device_of b.device_type) (λ device.
@@ -43,7 +44,7 @@ base_with stop good b =
       hybrid = eqb (b.module_type / 128 % 2) 1;
     }))))
 
-abbrev pub sdram_with : {X : Type 0} → (Told → X) → (Sdram → X) → IdentityBytes → X
+abbrev pub sdram_with : {X : Type 0} → (Refusal → X) → (Sdram → X) → IdentityBytes → X
 sdram_with stop good b =
     onward stop (density_of (b.first_density_package % 32)) (λ density.
     onward stop (package_of (b.first_density_package / 32 % 8)) (λ p.
@@ -61,7 +62,7 @@ sdram_with stop good b =
       banks_per_bank_group = banks;
     }))))))
 
-abbrev pub organization_with : {X : Type 0} → (Told → X) → (Organization → X) → IdentityBytes → X
+abbrev pub organization_with : {X : Type 0} → (Refusal → X) → (Organization → X) → IdentityBytes → X
 organization_with stop good b =
     onward stop (bus_width_of (b.memory_channel_bus_width % 8)) (λ bus.
     onward stop (channels_of (b.memory_channel_bus_width / 32 % 8)) (λ channels.
@@ -96,7 +97,7 @@ whole_of b d o =
     }
 
 -- refused 1 where one of the bytes is missing, and then the parts in their order
-abbrev pub identity_with : {X : Type 0} → (Told → X) → (IdentityAndBase → X) → View → X
+abbrev pub identity_with : {X : Type 0} → (Refusal → X) → (IdentityAndBase → X) → View → X
 identity_with stop good v =
     whole stop (missing_at identity_ranges v) (
     base_with stop (λ b.
@@ -104,21 +105,21 @@ identity_with stop good v =
     organization_with stop (λ o.
     good (whole_of b d o)) (bytes_at v)) (bytes_at v)) (bytes_at v))
 
-abbrev pub identity_at : View → Said IdentityAndBase
-identity_at v = identity_with refuses gives v
+abbrev pub identity_at : View → Answer IdentityAndBase
+identity_at v = identity_with Err Ok v
 
-unfoldable pub identity_of : List ℕ → Said IdentityAndBase
+unfoldable pub identity_of : List ℕ → Answer IdentityAndBase
 identity_of s = identity_at (view s)
 
 -- the bytes alone, and each part alone
-unfoldable pub identity_bytes_of : List ℕ → Said IdentityBytes
-identity_bytes_of s = whole refuses (missing_at identity_ranges (view s)) (gives (bytes_at (view s)))
+unfoldable pub identity_bytes_of : List ℕ → Answer IdentityBytes
+identity_bytes_of s = whole Err (missing_at identity_ranges (view s)) (Ok (bytes_at (view s)))
 
-unfoldable pub base_of : IdentityBytes → Said Base
-base_of b = base_with refuses gives b
+unfoldable pub base_of : IdentityBytes → Answer Base
+base_of b = base_with Err Ok b
 
-unfoldable pub sdram_of : IdentityBytes → Said Sdram
-sdram_of b = sdram_with refuses gives b
+unfoldable pub sdram_of : IdentityBytes → Answer Sdram
+sdram_of b = sdram_with Err Ok b
 
-unfoldable pub organization_of : IdentityBytes → Said Organization
-organization_of b = organization_with refuses gives b
+unfoldable pub organization_of : IdentityBytes → Answer Organization
+organization_of b = organization_with Err Ok b

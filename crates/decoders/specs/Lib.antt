@@ -3,5 +3,3 @@ pub mod Identity
 pub mod Cas
 pub mod Timing
 pub mod Clocks
-pub mod Answers
-pub mod Fields

@@ -1,8 +1,8 @@
 -- Document 01, "Timings" and "Data rate". Assumes nothing.
-use Rattle.std.specs.Prelude.{ℕ, ◌+◌, ◌*◌, ◌/◌, List, [], ◌∷◌, eqb, take, replicate}
+use Rattle.std.specs.Prelude.{ℕ, ◌+◌, ◌*◌, ◌/◌, List, [], ◌∷◌, eqb, take, Ok, Err}
 use Rattle.reading.specs.Pick.{pick}
 use Rattle.reading.specs.View.{View, view}
-use Rattle.reading.specs.Said.{Said, gives, refuses}
+use Rattle.reading.specs.Refusal.{Answer}
 use Rattle.reading.specs.Ranges.{missing_at, whole, reach_of}
 use Rattle.decoders.specs.Cas.{cas_of}
 use Rattle.decoders.specs.declared.timing.Picoseconds.{Picoseconds}
@@ -60,18 +60,15 @@ times_at v =
     }
 
 -- refused only where one of the bytes is missing
-abbrev pub timings_at : View → Said Timings
-timings_at v = whole refuses (missing_at timing_ranges v) (gives (times_at v))
+abbrev pub timings_at : View → Answer Timings
+timings_at v = whole Err (missing_at timing_ranges v) (Ok (times_at v))
 
-unfoldable pub timings_of : List ℕ → Said Timings
+unfoldable pub timings_of : List ℕ → Answer Timings
 timings_of s = timings_at (view s)
 
--- whether the image has the bytes that the record is read from, and the bytes up to the last of them
-unfoldable pub timing_reach_of : List ℕ → Said (Unit {0})
-timing_reach_of s = whole refuses (missing_at timing_ranges (view s)) (gives tt)
-
-unfoldable pub timing_bytes_of : List ℕ → List ℕ
-timing_bytes_of s = whole (λ t. replicate (reach_of timing_ranges) 0) (missing_at timing_ranges (view s)) (take (reach_of timing_ranges) s)
+-- the bytes that the record is read from, up to the last of them
+unfoldable pub timing_bytes_of : List ℕ → Answer (List ℕ)
+timing_bytes_of s = whole Err (missing_at timing_ranges (view s)) (Ok (take (reach_of timing_ranges) s))
 
 -- the data rate of a cycle time, each division rounded down
 abbrev pub rate_of : ℕ → ℕ

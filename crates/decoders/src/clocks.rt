@@ -1,13 +1,12 @@
-// The clock table: nine times of a timing record as whole counts of the minimum clock cycle.
+//! The clock table: nine times of a timing record as whole counts of the minimum clock cycle.
 ghost use Rattle.std.specs.Prelude.{◌≡◌, ◌<◌};
 ghost use Rattle.decoders.specs.Clocks.{clocks_of, clock_table_of};
-ghost use Rattle.decoders.specs.Answers.{clock_table_said};
 
 use crate::timing::{Picoseconds, Timings};
 use reading::Refusal;
 
-// Counts of clock cycles, under the names of the times.
-#[derive(Clone, Copy)]
+/// Counts of clock cycles, under the names of the times.
+#[derive(Clone, Copy, Debug, PartialEq, Eq)]
 pub struct ClockTable {
     pub taa: u32,
     pub trcd: u32,
@@ -20,22 +19,16 @@ pub struct ClockTable {
     pub trfcsb: u32,
 }
 
-#[derive(Clone, Copy)]
-pub enum ClockTableAnswer {
-    Table(ClockTable),
-    Refused(Refusal),
-}
-
-// For each of the nine times its count of clock cycles.
+/// For each of the nine times its count of clock cycles.
 #[tactic(auto, unfolding(crate::specs::Clocks::clock_table_of))]
-pub fn clock_table(timings: Timings) -> ClockTableAnswer
-    ensures { clock_table_said result ≡ clock_table_of «timings» }
+pub fn clock_table(timings: Timings) -> Result<ClockTable, Refusal>
+    ensures { result ≡ clock_table_of «timings» }
 {
     let tck = timings.tckavg_min.0;
     if tck == 0 {
-        return ClockTableAnswer::Refused(Refusal::ZeroClock);
+        return Err(Refusal::ZeroClock);
     }
-    ClockTableAnswer::Table(ClockTable {
+    Ok(ClockTable {
         taa: cycles(timings.taa, tck),
         trcd: cycles(timings.trcd, tck),
         trp: cycles(timings.trp, tck),
@@ -49,10 +42,11 @@ pub fn clock_table(timings: Timings) -> ClockTableAnswer
 }
 
 // A time in clocks, as JEDEC rounds it: two divisions, here as one. The products need more than 32 bits, the count does not.
+// Kept: `as`, since that is proved, and `try_from` would add an error that cannot be.
 #[tactic(auto, using(crate::proofs::Least::at_once))]
 fn cycles(time: Picoseconds, tck: u32) -> u32
     requires { 0 < tck }
     ensures { result ≡ clocks_of tck time.0 }
 {
-    (time.0 as u64 * 997 / (tck as u64 * 1000) + 1) as u32
+    (u64::from(time.0) * 997 / (u64::from(tck) * 1000) + 1) as u32
 }

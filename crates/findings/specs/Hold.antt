@@ -1,10 +1,8 @@
 -- Findings as a list, and the array of fifteen with a count that holds one. Assumes nothing.
-use Rattle.std.specs.Prelude.{◌-◌, List, [], ◌∷◌, ◌++◌, length, replicate}
+use Rattle.std.specs.Prelude.{◌-◌, List, [], ◌∷◌, ◌++◌, length, replicate, Option, Some, None}
 use Rattle.findings.specs.declared.Severity.{Severity}
 use Rattle.findings.specs.declared.Finding.{Finding}
 use Rattle.findings.specs.declared.Findings.{Findings}
-use Rattle.findings.specs.declared.Found.{Found}
-use Rattle.findings.specs.declared.Found.TheVariants.{Nothing, One}
 
 -- the finding that says nothing, which stands in a place that is not in use
 abbrev pub blank_finding : Finding
@@ -19,11 +17,11 @@ unfoldable pub holding : List Finding → Findings
 holding l = record { items = l ++ replicate (15 - length l) blank_finding; count = length l }
 
 -- what one rule's answer adds
-abbrev pub to_list : Found → List Finding
-to_list Nothing = []
-to_list (One x) = x ∷ []
+abbrev pub to_list : Option Finding → List Finding
+to_list None = []
+to_list (Some x) = x ∷ []
 
 -- the findings among a row of rules' answers, in order
-abbrev pub cat : List Found → List Finding
+abbrev pub cat : List (Option Finding) → List Finding
 cat [] = []
 cat (x ∷ xs) = to_list x ++ cat xs

@@ -1,11 +1,17 @@
 -- The block and the part number look at no byte outside the table: an image masked to its bytes decodes the same. So they look at the first
 -- 555 bytes alone, which is the number that the table reaches to. Assumes nothing.
 use mathlib.Core.Path.{◌≡◌, refl}
-use Rattle.reading.specs.View.{Within}
-use Rattle.reading.specs.Ranges.{missing_at, reach_of, Only}
+use Rattle.std.specs.Prelude.{Ok, Err}
+use Prim.Native.Nat.{ℕ, ◌<◌, ◌≤◌}
+use mathlib.Core.List.{List}
+use lib.ListN.{length, get_or}
+use Rattle.reading.specs.Pick.{pick}
+use Rattle.reading.specs.View.{view, Within}
+use Rattle.reading.specs.Ranges.{missing_at, truncated_by, reach_of, Only}
+use Rattle.reading.specs.declared.Refusal.TheVariants.{StrictDate}
 use Rattle.reading.specs.Made.{firsts}
-use Rattle.reading.proofs.Reach.{only-within}
-use Rattle.manufacturing.specs.Block.{manufacturing_ranges, manufacturing_at}
+use Rattle.reading.proofs.Reach.{only-within, none-missing, cut}
+use Rattle.manufacturing.specs.Block.{manufacturing_ranges, date_refused, block_at, manufacturing_at, manufacturing_of}
 use Rattle.manufacturing.specs.Part.{field_at, part_at, part_kept_at}
 use Rattle.manufacturing.specs.declared.DateMode.{DateMode}
 use Rattle.manufacturing.specs.declared.DateMode.TheVariants.{AsIs, Strict}
@@ -35,3 +41,14 @@ part-reach = only-within manufacturing_ranges part-only
 
 pub part-kept-reach : Within (reach_of manufacturing_ranges) part_kept_at
 part-kept-reach = only-within manufacturing_ranges part-kept-only
+
+-- the answer for an image that is long enough, and for one that is not
+module _ (mode : DateMode) (s : List ℕ) where
+  pub block_long : reach_of manufacturing_ranges ≤ length s
+      → manufacturing_of mode s ≡ pick (date_refused mode (get_or s 515 0) (get_or s 516 0)) (Err StrictDate) (Ok (block_at (view s)))
+  unfolding manufacturing_of
+  block_long h = rw (none-missing manufacturing_ranges s h) refl
+
+  pub block_short : length s < reach_of manufacturing_ranges → manufacturing_of mode s ≡ Err (truncated_by (missing_at manufacturing_ranges (view s)))
+  unfolding manufacturing_of
+  block_short h = cut manufacturing_ranges s Err _ h

@@ -1,12 +1,15 @@
 -- The laws of `trimmed`: it leaves out the spaces that end a list and nothing else. Then the turns of the loop that finds its length.
 -- Assumes nothing.
 use Prim.Native.Nat.{ℕ, zero, suc, ◌+◌, ◌-◌, ◌<◌, ◌≤◌}
-use mathlib.Core.Path.{◌≡◌, refl, ap, sym, ◌∙◌}
+use Rattle.std.specs.Prelude.{Option, Some, None}
+use mathlib.Core.Path.{◌≡◌, refl, ap, sym, subst, ◌∙◌}
 use mathlib.Core.List.{List, [], ◌∷◌, ◌++◌, append-nil, append_assoc}
 use native.Mathlib.Omega.{arith}
 use lib.Dec.{eqb}
 use lib.ListN.{length, take, drop, get_or, replicate, length-append, length-drop}
-use lib.Seq.{take-suc, take-append_seam, length-take-le, get_or-drop}
+use lib.Seq.{take-suc, take-length, take-append_seam, get_or-drop}
+use Rattle.std.specs.List.{suffix_len}
+use Rattle.std.proofs.lemmas.List.Sums.{suffix_len-take_yes, suffix_len-take_no}
 use borrow.Author.Tests.{eqb-true, eqb-false, ne_eqb}
 use Rattle.reading.specs.View.{view}
 use Rattle.reading.specs.Made.{firsts}
@@ -15,7 +18,7 @@ use Rattle.reading.proofs.Picked.{by-test}
 use Rattle.reading.specs.Ranges.{missing_at, reach_of}
 use Rattle.reading.proofs.Reach.{by-missing, none-missing, cut}
 use Rattle.manufacturing.specs.Block.{manufacturing_ranges}
-use Rattle.manufacturing.specs.Part.{before, trimmed, field_at, part_of, part_kept_of, IsTrimmed}
+use Rattle.manufacturing.specs.Part.{before, trimmed, field_at, field_of, part_of, part_kept_of, IsTrimmed}
 
 -- one byte more in front
 step : (b : ℕ) (l t : List ℕ) → IsTrimmed l t → IsTrimmed (b ∷ l) (before b t)
@@ -83,27 +86,73 @@ trim_same (b ∷ x ∷ t) h = ap (before b) (trim_same (x ∷ t) (λ p e. h (b �
 pub trimmed-once : (l t : List ℕ) → IsTrimmed l t → t ≡ trimmed l
 trimmed-once l t h = sym (ap trimmed h.all ∙ trim-spaces t h.spaces ∙ trim_same t h.ends)
 
--- a turn: of the first n bytes the last is looked at
-module _ (l : List ℕ) (n : ℕ) (pos : 0 < n) (fits : n ≤ length l) where
-  last : take n l ≡ take (n - 1) l ++ (get_or l (n - 1) 0 ∷ [])
-  last =
-      let e : n ≡ suc (n - 1) = omega arith in
-      ap (λ (k : ℕ). take k l) e ∙ take-suc l (n - 1) 0 (omega arith)
+-- so the spaces that end a list may be counted from its end: of the first n bytes, and of all
+module _ (l : List ℕ) where
+  abbrev spaces : ℕ → ℕ
+  spaces n = suffix_len (λ b. eqb b 0x20) (take n l)
 
-  pub space : get_or l (n - 1) 0 ≡ 32 → trimmed (take n l) ≡ trimmed (take (n - 1) l)
-  space e = ap trimmed (last ∙ ap (λ (b : ℕ). take (n - 1) l ++ (b ∷ [])) e) ∙ trim-space (take (n - 1) l)
+  last : (n : ℕ) → suc n ≤ length l → take (suc n) l ≡ take n l ++ (get_or l n 0 ∷ [])
+  last n fits = take-suc l n 0 (omega arith)
 
-  pub other : (get_or l (n - 1) 0 ≡ 32 → ⊥) → length (trimmed (take n l)) ≡ n
-  other h = ap length (ap trimmed last ∙ trim-other (take (n - 1) l) (get_or l (n - 1) 0) h ∙ sym last) ∙ length-take-le n l fits
+  pred : (n : ℕ) → suc n - 1 ≡ n
+  pred n = omega arith
 
-pub none : (l : List ℕ) {n : ℕ} → n ≡ 0 → 0 ≡ length (trimmed (take n l))
-unfolding trimmed
-none l e = rw e
+  trim-first : (n : ℕ) → n ≤ length l → take (n - spaces n) l ≡ trimmed (take n l)
+  unfolding trimmed
+  trim-first zero fits = refl
+  trim-first (suc n) fits = by-test (eqb (get_or l n 0) 0x20)
+      (λ y.
+      let counted : spaces (suc n) ≡ 1 + spaces n = rw (pred n) at (suffix_len-take_yes (λ b. eqb b 0x20) l (suc n) 0 (omega arith) fits (rw (pred n) y)) in
+      let fewer : suc n - spaces (suc n) ≡ n - spaces n = omega arith in
+      ap (λ (k : ℕ). take k l) fewer
+      ∙ trim-first n (omega arith)
+      ∙ sym (trim-space (take n l))
+      ∙ ap trimmed (sym (last n fits ∙ ap (λ (b : ℕ). take n l ++ (b ∷ [])) (eqb-true (get_or l n 0) 32 y))))
+      (λ y.
+      let counted : spaces (suc n) ≡ 0 = suffix_len-take_no (λ b. eqb b 0x20) l (suc n) 0 (omega arith) fits (rw (pred n) y) in
+      let all : suc n - spaces (suc n) ≡ suc n = omega arith in
+      ap (λ (k : ℕ). take k l) all
+      ∙ last n fits
+      ∙ sym (trim-other (take n l) (get_or l n 0) (eqb-false (get_or l n 0) 32 y))
+      ∙ ap trimmed (sym (last n fits)))
+
+  pub trim_counted : take (length l - suffix_len (λ b. eqb b 0x20) l) l ≡ trimmed l
+  trim_counted = rw take-length at (trim-first (length l) (omega arith))
 
 -- the thirty bytes are a part of an image that has them
 pub field_is : (s : List ℕ) → 551 ≤ length s → take 30 (drop 521 s) ≡ field_at (view s)
 unfolding field_at
 field_is s h = front-is 30 (drop 521 s) (omega (arith, length-drop 521 s)) ∙ (λ j. firsts 30 (λ i. get_or-drop 521 s i 0 j))
+
+module _ (s : List ℕ) where
+  pub field_long : reach_of manufacturing_ranges ≤ length s → Some (take 30 (drop 521 s)) ≡ field_of s
+  unfolding field_of
+  field_long h = rw (none-missing manufacturing_ranges s h) (ap Some (field_is s (omega arith)))
+
+  pub field_short : length s < reach_of manufacturing_ranges → None ≡ field_of s
+  unfolding field_of
+  field_short h = sym (cut manufacturing_ranges s (λ t. None) _ h)
+
+  -- so of the thirty bytes, where an image has them, both calls make what they promise
+  abbrev pub Parted : Option (List ℕ) → Type 0
+  Parted (Some field) = (trimmed field ≡ part_of s) × (record { bytes = field; len = length (trimmed field) } ≡ part_kept_of s)
+  Parted None = ([] ≡ part_of s) × (record { bytes = replicate 30 0; len = 0 } ≡ part_kept_of s)
+
+  parted : Parted (field_of s)
+  unfolding field_of part_of part_kept_of
+  parted = by-missing (missing_at manufacturing_ranges (view s)) (λ e. rw e (rw e refl, rw e refl)) (λ i e. rw e (rw e refl, rw e refl))
+
+  pub part_some : (field : List ℕ) → Some field ≡ field_of s → trimmed field ≡ part_of s
+  part_some field e = (subst Parted (sym e) parted).0
+
+  pub kept_some : (field : List ℕ) → Some field ≡ field_of s → record { bytes = field; len = length (trimmed field) } ≡ part_kept_of s
+  kept_some field e = (subst Parted (sym e) parted).1
+
+  pub part_no : None ≡ field_of s → [] ≡ part_of s
+  part_no e = (subst Parted (sym e) parted).0
+
+  pub kept_no : None ≡ field_of s → record { bytes = replicate 30 0; len = 0 } ≡ part_kept_of s
+  kept_no e = (subst Parted (sym e) parted).1
 
 -- the part number never has more than thirty bytes
 pub part-few : (s : List ℕ) → length (part_of s) ≤ 30

@@ -1,11 +1,12 @@
 -- Document 02's examples of 2026-02 and others, computed. Assumes nothing.
+use Rattle.std.specs.Prelude.{Ok, Err}
 use Prim.Native.Nat.{ℕ}
 use mathlib.Core.Path.{◌≡◌, refl, ap}
 use mathlib.Core.List.{List, [], ◌∷◌}
 use lib.Dec.{ltb}
 use lib.ListN.{length, get_or}
 use Rattle.reading.specs.View.{View, view}
-use Rattle.reading.specs.Said.{gives, refused}
+use Rattle.reading.specs.declared.Refusal.TheVariants.{StrictDate, Truncated}
 use Rattle.reading.specs.Ranges.{missing_at}
 use Rattle.reading.specs.Made.{Image, firsts}
 use Rattle.reading.proofs.Made.{made}
@@ -41,7 +42,7 @@ pub zero-stays : trimmed (65 ∷ 0 ∷ 32 ∷ []) ≡ 65 ∷ 0 ∷ []
 unfolding trimmed
 zero-stays = refl
 
-pub decoded : manufacturing_at Strict (made (image 0x12)) ≡ gives (record {
+pub decoded : manufacturing_at Strict (made (image 0x12)) ≡ Ok (record {
   module_manufacturer = record { bank = 5; code = 111 };
   manufacturing_location = 0;
   manufacturing_date = record { year = 2022; week = 12 };
@@ -67,15 +68,15 @@ pub week-last : manufacturing_at Strict (made (image 0x53)) ≡ manufacturing_at
 unfolding image missing_at
 week-last = refl
 
-pub week-none : manufacturing_at Strict (made (image 0x00)) ≡ refused 13 0 0
+pub week-none : manufacturing_at Strict (made (image 0x00)) ≡ Err StrictDate
 unfolding image missing_at
 week-none = refl
 
-pub week-late : manufacturing_at Strict (made (image 0x54)) ≡ refused 13 0 0
+pub week-late : manufacturing_at Strict (made (image 0x54)) ≡ Err StrictDate
 unfolding image missing_at
 week-late = refl
 
-pub week-no-digit : manufacturing_at Strict (made (image 0x1A)) ≡ refused 13 0 0
+pub week-no-digit : manufacturing_at Strict (made (image 0x1A)) ≡ Err StrictDate
 unfolding image missing_at
 week-no-digit = refl
 
@@ -84,14 +85,14 @@ module _ (mode : DateMode) (s : List ℕ) where
   abbrev sized : ℕ → View
   sized n = record { below = λ k. ltb n k; byte = λ i. get_or s i 0 }
 
-  pub block-of-100 : length s ≡ 100 → manufacturing_of mode s ≡ refused 1 512 0
+  pub block-of-100 : length s ≡ 100 → manufacturing_of mode s ≡ Err (Truncated 512)
   unfolding manufacturing_of missing_at
   block-of-100 e = manufacturing-named mode (view s) 512 (ap (λ (n : ℕ). missing_at manufacturing_ranges (sized n)) e)
 
-  pub block-of-530 : length s ≡ 530 → manufacturing_of mode s ≡ refused 1 530 0
+  pub block-of-530 : length s ≡ 530 → manufacturing_of mode s ≡ Err (Truncated 530)
   unfolding manufacturing_of missing_at
   block-of-530 e = manufacturing-named mode (view s) 530 (ap (λ (n : ℕ). missing_at manufacturing_ranges (sized n)) e)
 
-  pub block-of-554 : length s ≡ 554 → manufacturing_of mode s ≡ refused 1 554 0
+  pub block-of-554 : length s ≡ 554 → manufacturing_of mode s ≡ Err (Truncated 554)
   unfolding manufacturing_of missing_at
   block-of-554 e = manufacturing-named mode (view s) 554 (ap (λ (n : ℕ). missing_at manufacturing_ranges (sized n)) e)

@@ -1,8 +1,9 @@
 -- Document 02, 2026-02: the manufacturing block, bytes 512 to 554. Assumes nothing.
-use Rattle.std.specs.Prelude.{ℕ, ◌+◌, ◌*◌, ◌/◌, ◌%◌, List, [], ◌∷◌, Bool, false, not, ltb, leb}
+use Rattle.std.specs.Prelude.{ℕ, ◌+◌, ◌*◌, ◌/◌, ◌%◌, List, [], ◌∷◌, Bool, false, not, ltb, leb, Ok, Err}
 use Rattle.reading.specs.Pick.{pick, and}
+use Rattle.reading.specs.declared.Refusal.TheVariants.{StrictDate}
 use Rattle.reading.specs.View.{View, view}
-use Rattle.reading.specs.Said.{Said, gives, refuses, refused, told}
+use Rattle.reading.specs.Refusal.{Answer}
 use Rattle.reading.specs.Ranges.{missing_at, whole}
 use Rattle.manufacturing.specs.declared.DateMode.{DateMode}
 use Rattle.manufacturing.specs.declared.DateMode.TheVariants.{AsIs, Strict}
@@ -10,8 +11,6 @@ use Rattle.manufacturing.specs.declared.ManufacturerId.{ManufacturerId}
 use Rattle.manufacturing.specs.declared.ManufacturingDate.{ManufacturingDate}
 use Rattle.manufacturing.specs.declared.SerialNumber.{SerialNumber}
 use Rattle.manufacturing.specs.declared.Manufacturing.{Manufacturing}
-use Rattle.manufacturing.specs.declared.ManufacturingAnswer.{ManufacturingAnswer}
-use Rattle.manufacturing.specs.declared.ManufacturingAnswer.TheVariants as answer
 
 -- what is read, by its start and its number of bytes
 abbrev pub manufacturing_ranges : List (ℕ × ℕ)
@@ -59,15 +58,11 @@ block_at v =
     }
 
 -- refused 1 where one of the bytes is missing, and then 13 where the date is refused
-abbrev pub manufacturing_at : DateMode → View → Said Manufacturing
+abbrev pub manufacturing_at : DateMode → View → Answer Manufacturing
 manufacturing_at mode v =
-    whole refuses (missing_at manufacturing_ranges v)
-    (pick (date_refused mode (v.byte 515) (v.byte 516)) (refused 13 0 0)
-    (gives (block_at v)))
+    whole Err (missing_at manufacturing_ranges v)
+    (pick (date_refused mode (v.byte 515) (v.byte 516)) (Err StrictDate)
+    (Ok (block_at v)))
 
-unfoldable pub manufacturing_of : DateMode → List ℕ → Said Manufacturing
+unfoldable pub manufacturing_of : DateMode → List ℕ → Answer Manufacturing
 manufacturing_of mode s = manufacturing_at mode (view s)
-
-abbrev pub manufacturing_said : ManufacturingAnswer → Said Manufacturing
-manufacturing_said (answer.Decoded m) = gives m
-manufacturing_said (answer.Refused why) = refuses (told why)

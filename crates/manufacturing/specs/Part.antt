@@ -1,5 +1,5 @@
 -- Document 02, 2026-02: the part number, bytes 521 to 550 without the spaces that end them. Assumes nothing.
-use Rattle.std.specs.Prelude.{ℕ, ◌+◌, ◌≡◌, List, [], ◌∷◌, ◌++◌, length, replicate, eqb}
+use Rattle.std.specs.Prelude.{ℕ, ◌+◌, ◌≡◌, Option, Some, None, List, [], ◌∷◌, ◌++◌, length, replicate, eqb}
 use Rattle.reading.specs.Pick.{pick}
 use Rattle.reading.specs.View.{View, view}
 use Rattle.reading.specs.Made.{firsts}
@@ -42,3 +42,7 @@ pub record IsTrimmed (l t : List ℕ) : Type 0 where
   pub spaces : ℕ
   pub all : l ≡ t ++ replicate spaces 0x20
   pub ends : (p : List ℕ) → t ≡ p ++ (0x20 ∷ []) → ⊥
+
+-- the thirty bytes, where no byte of the block is missing; a private function alone promises in these terms
+unfoldable pub field_of : List ℕ → Option (List ℕ)
+field_of s = whole (λ t. None) (missing_at manufacturing_ranges (view s)) (Some (field_at (view s)))

@@ -1,9 +1,11 @@
-// Manufacturing information block: bytes 512 to 554 of an image.
+//! Manufacturing information block: bytes 512 to 554 of an image.
 #![tactic(auto)]
 
-ghost use Rattle.std.specs.Prelude.{◌≡◌, length};
-ghost use Rattle.manufacturing.specs.Block.{maker_of, bcd_of, date_of, serial_of, digits, good_date, date_refused, manufacturing_of, manufacturing_said};
-ghost use Rattle.manufacturing.specs.Part.{trimmed, part_of, part_kept_of};
+ghost use Rattle.std.specs.Prelude.{◌≡◌, ◌≤◌, eqb, length};
+ghost use Rattle.std.specs.List.{suffix_len};
+ghost use Rattle.std.specs.Option.{option_copied};
+ghost use Rattle.manufacturing.specs.Block.{maker_of, bcd_of, date_of, serial_of, digits, good_date, date_refused, manufacturing_of};
+ghost use Rattle.manufacturing.specs.Part.{trimmed, field_of, part_of, part_kept_of};
 
 use reading::Refusal;
 
@@ -27,36 +29,35 @@ const OFF_DRAM_MFR_ID: usize = 552;
 const OFF_DRAM_STEPPING: usize = 554;
 
 // What is read: where its one range starts and how many bytes it has; and how many bytes there are up to the last of them.
-const MANUFACTURING_STARTS: [u16; 1] = [512];
+// Kept: `as`, since a constant may not call `usize::from`.
+const MANUFACTURING_RANGES: [(u16, u16); 1] = [(512, 43)];
 
-const MANUFACTURING_LENGTHS: [u16; 1] = [43];
+const MANUFACTURING_BYTES: usize = MANUFACTURING_RANGES[0].0 as usize
+    + MANUFACTURING_RANGES[0].1 as usize;
 
-const MANUFACTURING_BYTES: usize = MANUFACTURING_STARTS[0] as usize
-    + MANUFACTURING_LENGTHS[0] as usize;
+// The last week that a date may name.
+const LAST_WEEK: u8 = 53;
 
-// What pads a part number.
-const SPACE: u8 = 0x20;
-
-// A JEP-106 manufacturer: its bank, 1 where no continuation code precedes, and its code.
-#[derive(Clone, Copy)]
+/// A JEP-106 manufacturer: its bank, 1 where no continuation code precedes, and its code.
+#[derive(Clone, Copy, Debug, PartialEq, Eq)]
 pub struct ManufacturerId {
     pub bank: u8,
     pub code: u8,
 }
 
-// A calendar year and a week of it.
-#[derive(Clone, Copy)]
+/// A calendar year and a week of it.
+#[derive(Clone, Copy, Debug, PartialEq, Eq)]
 pub struct ManufacturingDate {
     pub year: u16,
     pub week: u8,
 }
 
-// Four bytes, the first the highest.
-#[derive(Clone, Copy)]
+/// Four bytes, the first the highest.
+#[derive(Clone, Copy, Debug, PartialEq, Eq)]
 pub struct SerialNumber(pub u32);
 
-// The decoded block. The part number is not in it: a part of the image is handed back by a call of its own.
-#[derive(Clone, Copy)]
+/// The decoded block. The part number is not in it: a part of the image is handed back by a call of its own.
+#[derive(Clone, Copy, Debug, PartialEq, Eq)]
 pub struct Manufacturing {
     pub module_manufacturer: ManufacturerId,
     pub manufacturing_location: u8,
@@ -67,43 +68,35 @@ pub struct Manufacturing {
     pub dram_stepping: u8,
 }
 
-#[derive(Clone, Copy)]
-pub enum ManufacturingAnswer {
-    Decoded(Manufacturing),
-    Refused(Refusal),
-}
-
-// Whether a date that is none is decoded as it is, or refused.
-#[derive(Clone, Copy)]
+/// Whether a date that is none is decoded as it is, or refused.
+#[derive(Clone, Copy, Debug, PartialEq, Eq)]
 pub enum DateMode {
     AsIs,
     Strict,
 }
 
-// A part number by value: its thirty bytes, and how many of them are left without the spaces that end them.
-#[derive(Clone, Copy)]
+/// A part number by value: its thirty bytes, and how many of them are left without the spaces that end them.
+// Kept: bytes with a length beside them. The contract of `part_number_kept` promises thirty zeros and 0 for a short image, and the library has no heap.
+#[derive(Clone, Copy, Debug, PartialEq, Eq)]
 pub struct PartNumber {
     pub bytes: [u8; PART_NUMBER_LEN],
     pub len: usize,
 }
 
-// The block of an image.
-pub fn decode_manufacturing(image: &[u8], mode: DateMode) -> ManufacturingAnswer
-    ensures { manufacturing_said result ≡ manufacturing_of mode image.now }
+/// The block of an image.
+#[tactic(auto, using(crate::proofs::Reach::block_long, crate::proofs::Reach::block_short))]
+pub fn decode_manufacturing(image: &[u8], mode: DateMode) -> Result<Manufacturing, Refusal>
+    ensures { result ≡ manufacturing_of mode image.now }
 {
     if image.len() < MANUFACTURING_BYTES {
-        return ManufacturingAnswer::Refused(reading::truncated(
-            image,
-            &MANUFACTURING_STARTS,
-            &MANUFACTURING_LENGTHS,
-        ));
+        return Err(reading::truncated_in(image, &MANUFACTURING_RANGES));
     }
     let year = reading::byte_or_zero(image, OFF_MFR_DATE);
     let week = reading::byte_or_zero(image, OFF_MFR_DATE + 1);
     if date_refused(mode, year, week) {
-        return ManufacturingAnswer::Refused(Refusal::StrictDate);
+        return Err(Refusal::StrictDate);
     }
-    ManufacturingAnswer::Decoded(Manufacturing {
+    Ok(Manufacturing {
         module_manufacturer: decode_manufacturer_id(
             reading::byte_or_zero(image, OFF_MODULE_MFR_ID),
             reading::byte_or_zero(image, OFF_MODULE_MFR_ID + 1),
@@ -125,42 +118,52 @@ pub fn decode_manufacturing(image: &[u8], mode: DateMode) -> ManufacturingAnswer
     })
 }
 
-// The part number: a part of the caller's image, without the spaces that end it, and an empty part where the image is too short.
+/// The part number: a part of the caller's image, without the spaces that end it, and an empty part where the image is too short.
+#[tactic(auto, using(crate::proofs::Trim::part_some, crate::proofs::Trim::part_no))]
 pub fn part_number(image: &[u8]) -> &[u8]
     ensures { result.now ≡ part_of image.now }
 {
-    if image.len() < MANUFACTURING_BYTES {
-        return &image[0..0];
+    match part_field(image) {
+        Some(field) => trim_spaces(field),
+        None => &image[..0],
     }
-    let field = &image[OFF_PART_NUMBER..OFF_REVISION];
-    let n = trimmed_len(field);
-    &field[..n]
 }
 
-// The same by value, for an image that does not last; thirty zeros of which none counts where the image is too short.
+/// The same by value, for an image that does not last; thirty zeros of which none counts where the image is too short.
+#[tactic(auto, using(crate::proofs::Trim::kept_some, crate::proofs::Trim::kept_no))]
 pub fn part_number_kept(image: &[u8]) -> PartNumber
     ensures { result ≡ part_kept_of image.now }
 {
-    if image.len() < MANUFACTURING_BYTES {
-        return PartNumber {
-            bytes: [0u8; PART_NUMBER_LEN],
+    match part_field(image) {
+        Some(field) => PartNumber {
+            bytes: *field,
+            len: trim_spaces(field).len(),
+        },
+        None => PartNumber {
+            bytes: [0; PART_NUMBER_LEN],
             len: 0,
-        };
-    }
-    let field = &image[OFF_PART_NUMBER..OFF_REVISION];
-    PartNumber {
-        bytes: thirty(field),
-        len: trimmed_len(field),
+        },
     }
 }
 
-// Bit 7 of both bytes is parity.
+// The thirty bytes of the part number, where no byte of the block is missing.
+#[tactic(auto, using(crate::proofs::Trim::field_long, crate::proofs::Trim::field_short))]
+fn part_field(image: &[u8]) -> Option<&[u8; PART_NUMBER_LEN]>
+    ensures { option_copied result ≡ field_of image.now }
+{
+    if image.len() < MANUFACTURING_BYTES {
+        return None;
+    }
+    image[OFF_PART_NUMBER..OFF_REVISION].first_chunk::<PART_NUMBER_LEN>()
+}
+
+// Bit 7 of both bytes is parity. Kept: byte by byte, as `maker_of` takes them, and so are the bytes of the serial number for `serial_of`.
 fn decode_manufacturer_id(lsb: u8, msb: u8) -> ManufacturerId
     ensures { result ≡ maker_of lsb msb }
 {
     ManufacturerId {
-        bank: lsb % 128 + 1,
-        code: msb % 128,
+        bank: (lsb & 0x7F) + 1,
+        code: msb & 0x7F,
     }
 }
 
@@ -168,14 +171,15 @@ fn decode_manufacturer_id(lsb: u8, msb: u8) -> ManufacturerId
 fn bcd(byte: u8) -> u8
     ensures { result ≡ bcd_of byte }
 {
-    byte / 16 * 10 + byte % 16
+    (byte >> 4) * 10 + (byte & 0x0F)
 }
 
+// Kept: two bytes beside each other, here and below, as `date_of`, `date_refused` and `good_date` of specs/Block.antt take them.
 fn decode_date(year_byte: u8, week_byte: u8) -> ManufacturingDate
     ensures { result ≡ date_of year_byte week_byte }
 {
     ManufacturingDate {
-        year: 2000 + bcd(year_byte) as u16,
+        year: 2000 + u16::from(bcd(year_byte)),
         week: bcd(week_byte),
     }
 }
@@ -183,69 +187,42 @@ fn decode_date(year_byte: u8, week_byte: u8) -> ManufacturingDate
 fn decode_serial_number(b0: u8, b1: u8, b2: u8, b3: u8) -> SerialNumber
     ensures { result ≡ serial_of b0 b1 b2 b3 }
 {
-    SerialNumber(((b0 as u32 * 256 + b1 as u32) * 256 + b2 as u32) * 256 + b3 as u32)
-}
-
-// How many bytes are left without the spaces that end them.
-fn trimmed_len(field: &[u8]) -> usize
-    ensures { result ≡ length (trimmed field.now) }
-{
-    let mut n = field.len();
-    while 0 < n {
-        if field[n - 1] != SPACE {
-            return n;
-        }
-        n -= 1;
-    }
-    0
-}
-
-// Thirty bytes by value.
-fn thirty(field: &[u8]) -> [u8; PART_NUMBER_LEN]
-    requires { length field.now ≡ 30 }
-    ensures { result ≡ field.now }
-{
-    let mut bytes = [0u8; PART_NUMBER_LEN];
-    for i in 0..PART_NUMBER_LEN {
-        bytes[i] = field[i];
-    }
-    bytes
+    SerialNumber(u32::from_be_bytes([b0, b1, b2, b3]))
 }
 
 // Whether a mode refuses the two bytes of a date.
 fn date_refused(mode: DateMode, year_byte: u8, week_byte: u8) -> bool
     ensures { result ≡ date_refused mode year_byte week_byte }
 {
-    match mode {
-        DateMode::AsIs => false,
-        DateMode::Strict => !good_date(year_byte, week_byte),
-    }
+    matches!(mode, DateMode::Strict) && !good_date(year_byte, week_byte)
 }
 
 // Whether two bytes are a date: decimal digits, and a week from 1 to 53.
 fn good_date(year_byte: u8, week_byte: u8) -> bool
     ensures { result ≡ good_date year_byte week_byte }
 {
-    if !is_digits(year_byte) {
-        return false;
-    }
-    if !is_digits(week_byte) {
-        return false;
-    }
-    let week = bcd(week_byte);
-    if week < 1 {
-        return false;
-    }
-    week <= 53
+    is_digits(year_byte) && is_digits(week_byte) && (1..=LAST_WEEK).contains(&bcd(week_byte))
 }
 
 // Whether both nibbles of a byte are decimal digits.
 fn is_digits(byte: u8) -> bool
     ensures { result ≡ digits byte }
 {
-    if byte / 16 < 10 {
-        byte % 16 < 10
-    } else {
-        false
-    }
+    byte >> 4 < 10 && byte & 0x0F < 10
+}
+
+// Without the spaces that end it.
+#[tactic(auto, using(crate::proofs::Trim::trim_counted))]
+fn trim_spaces(field: &[u8]) -> &[u8]
+    ensures { result.now ≡ trimmed field.now }
+{
+    &field[..field.len() - count_spaces(field)]
+}
+
+// How many spaces end it.
+fn count_spaces(field: &[u8]) -> usize
+    ensures count { result ≡ suffix_len (λ byte. eqb byte 0x20) field.now }
+    ensures bound { result ≤ length field.now }
+{
+    field.iter().rev().take_while(|&&byte| byte == b' ').count()
 }

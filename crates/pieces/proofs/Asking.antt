@@ -10,17 +10,15 @@ use lib.Dec.{leb, ltb}
 use borrow.Author.Tests.{le-leb, lt-ltb, leb-true, ltb-true}
 use Rattle.reading.specs.Pick.{pick}
 use Rattle.reading.specs.View.{View, view, clip, Within}
-use Rattle.reading.specs.Ranges.{reach_of}
-use Rattle.reading.proofs.Picked.{by-test}
 use Rattle.reading.proofs.Clip.{within}
-use Rattle.decoders.specs.Identity.{identity_ranges, identity_of}
-use Rattle.decoders.specs.Timing.{timing_ranges, timings_of}
+use Rattle.decoders.specs.Identity.{identity_of}
+use Rattle.decoders.specs.Timing.{timings_of}
 use Rattle.decoders.proofs.Reach.{identity-reach, timings-reach}
-use Rattle.manufacturing.specs.Block.{manufacturing_ranges, manufacturing_of}
+use Rattle.manufacturing.specs.Block.{manufacturing_of}
 use Rattle.manufacturing.specs.Part.{part_of, part_kept_of}
 use Rattle.manufacturing.specs.declared.DateMode.{DateMode}
 use Rattle.manufacturing.proofs.Reach.{manufacturing-reach, part-reach, part-kept-reach}
-use Rattle.crc.specs.Base.{crc_ranges, base_crc_of}
+use Rattle.crc.specs.Base.{base_crc_of}
 use Rattle.crc.proofs.Reach.{crc-reach}
 use Rattle.findings.specs.Hold.{holding}
 use Rattle.rules.specs.declared.Edition.{Edition}
@@ -47,17 +45,13 @@ kept-first {b = b} h = rw (h.count, h.first) (take-padded kept_bytes b)
 pub asked : {X : Type 0} {d : View → X} → Within kept_bytes d → {s : Pieces} {b : List ℕ} → Holds s b → d (view (kept_of s)) ≡ d (view b)
 asked {d = d} w {b = b} h = ap (λ (l : List ℕ). d (view l)) (kept-first h) ∙ within d kept_bytes w b
 
--- the same after any run of calls
-pub asked-run : {X : Type 0} {d : View → X} → Within kept_bytes d → (e : Edition) (cs : List Call) → d (view (kept_of (run e cs))) ≡ d (view (image cs))
-asked-run w e cs = asked w (run_holds e cs)
-
 -- the first n of the first m bytes are the first n
 module _ (n m : ℕ) (h : n ≤ m) where
   below_both : (k : ℕ) (t : Bool) → pick (leb k n) (pick (leb k m) t true) true ≡ pick (leb k n) t true
-  below_both k t = by-test (leb k n) (λ e. rw (e, le-leb k m (omega (arith, leb-true k n e)))) (λ e. rw e)
+  below_both k t = grind (arith, le-leb, leb-true)
 
   byte-both : (i x : ℕ) → pick (ltb i n) (pick (ltb i m) x 0) 0 ≡ pick (ltb i n) x 0
-  byte-both i x = by-test (ltb i n) (λ e. rw (e, lt-ltb i m (omega (arith, ltb-true i n e)))) (λ e. rw e)
+  byte-both i x = grind (arith, lt-ltb, ltb-true)
 
   clip-clip : (v : View) → clip n (clip m v) ≡ clip n v
   clip-clip v i = record { below = λ k. below_both k (v.below k) i; byte = λ k. byte-both k (v.byte k) i }
@@ -68,32 +62,35 @@ module _ (n m : ℕ) (h : n ≤ m) where
 
 -- every question of a state, after any run of calls, is answered for the bytes that the run brought
 module _ (e : Edition) (cs : List Call) where
+  asked-run : {X : Type 0} {d : View → X} {n : ℕ} → n ≤ kept_bytes → Within n d → d (view (kept_of (run e cs))) ≡ d (view (image cs))
+  asked-run {n = n} h w = asked (within_more n kept_bytes h w) (run_holds e cs)
+
   pub run-identity : identity_of (kept_of (run e cs)) ≡ identity_of (image cs)
   unfolding identity_of
-  run-identity = asked-run (within_more (reach_of identity_ranges) kept_bytes (omega arith) identity-reach) e cs
+  run-identity = asked-run (omega arith) identity-reach
 
   pub run-timings : timings_of (kept_of (run e cs)) ≡ timings_of (image cs)
   unfolding timings_of
-  run-timings = asked-run (within_more (reach_of timing_ranges) kept_bytes (omega arith) timings-reach) e cs
+  run-timings = asked-run (omega arith) timings-reach
 
   pub run-manufacturing : (mode : DateMode) → manufacturing_of mode (kept_of (run e cs)) ≡ manufacturing_of mode (image cs)
   unfolding manufacturing_of
-  run-manufacturing mode = asked-run (within_more (reach_of manufacturing_ranges) kept_bytes (omega arith) (manufacturing-reach mode)) e cs
+  run-manufacturing mode = asked-run (omega arith) (manufacturing-reach mode)
 
   pub run-part : part_of (kept_of (run e cs)) ≡ part_of (image cs)
   unfolding part_of
-  run-part = asked-run (within_more (reach_of manufacturing_ranges) kept_bytes (omega arith) part-reach) e cs
+  run-part = asked-run (omega arith) part-reach
 
   pub run-part-kept : part_kept_of (kept_of (run e cs)) ≡ part_kept_of (image cs)
   unfolding part_kept_of
-  run-part-kept = asked-run (within_more (reach_of manufacturing_ranges) kept_bytes (omega arith) part-kept-reach) e cs
+  run-part-kept = asked-run (omega arith) part-kept-reach
 
   pub run-crc : base_crc_of (kept_of (run e cs)) ≡ base_crc_of (image cs)
   unfolding base_crc_of
-  run-crc = asked-run (within_more (reach_of crc_ranges) kept_bytes (omega arith) crc-reach) e cs
+  run-crc = asked-run (omega arith) crc-reach
 
   pub run-findings : findings_of e (kept_of (run e cs)) ≡ findings_of e (image cs)
-  run-findings = asked-run (within_more 510 kept_bytes (omega arith) (lint-reach e)) e cs
+  run-findings = asked-run (omega arith) (lint-reach e)
 
   pub run-lint : lint_of e (kept_of (run e cs)) ≡ lint_of e (image cs)
   run-lint i = record { identity = run-identity i; timings = run-timings i; findings = holding (run-findings i) }

@@ -61,10 +61,7 @@ run-same e cs ds h = same-state (run_holds e cs) (rw h (run_holds e ds)) (run-ed
 pub taken_from-in_order : (n : ℕ) (ps : List (List ℕ)) → n + length (join ps) ≤ longest → taken_from n (in_order n ps) ≡ ps
 unfolding taken_from in_order join
 taken_from-in_order n [] h = refl
-taken_from-in_order n (p ∷ ps) h =
-    let e : length (p ++ join ps) ≡ length p + length (join ps) = length-append p (join ps) in
-    let k : n + length p ≤ longest = omega arith in
-    rw (eq-eqb n n refl, le-leb (n + length p) longest k) (ap (λ (l : List (List ℕ)). p ∷ l) (taken_from-in_order (n + length p) ps (omega arith)))
+taken_from-in_order n (p ∷ ps) h = grind (arith, eq-eqb, le-leb, length-append, taken_from-in_order (n + length p) ps)
 
 -- and bring their join
 pub in-order-image : (ps : List (List ℕ)) → length (join ps) ≤ longest → image (in_order 0 ps) ≡ join ps

@@ -1,14 +1,13 @@
 -- Document 01, "Pieces": what feeding a piece to a state gives, one answer and one later state; the edition as document 02, 2026-05, has it.
 -- Assumes nothing.
-use Rattle.std.specs.Prelude.{ℕ, zero, suc, ◌+◌, ◌≤◌, ◌≡◌, List, [], ◌∷◌, length, take, replicate, eqb, leb}
+use Rattle.std.specs.Prelude.{ℕ, zero, suc, ◌+◌, ◌≤◌, ◌≡◌, List, [], ◌∷◌, length, take, replicate, eqb, leb, Ok, Err}
 use Rattle.reading.specs.Pick.{pick}
-use Rattle.reading.specs.Said.{Said, gives, refuses, refused, onward, told}
+use Rattle.reading.specs.declared.Refusal.TheVariants.{TooLong, WrongOffset}
+use Rattle.reading.specs.Refusal.{Answer, onward}
 use Rattle.rules.specs.declared.Edition.{Edition}
 use Rattle.rules.specs.declared.Edition.TheVariants.{Second}
 use Rattle.rules.specs.Lint.{edition_of}
 use Rattle.pieces.specs.declared.Pieces.{Pieces}
-use Rattle.pieces.specs.declared.FeedAnswer.{FeedAnswer}
-use Rattle.pieces.specs.declared.FeedAnswer.TheVariants as feed
 use Rattle.pieces.specs.declared.Fed.{Fed}
 
 -- how many of an image's first bytes are kept, and the most bytes that it has
@@ -28,34 +27,22 @@ overlaid (k ∷ ks) (suc at) p = k ∷ overlaid ks at p
 overlaid (k ∷ ks) zero [] = k ∷ ks
 overlaid (k ∷ ks) zero (x ∷ p) = x ∷ overlaid ks zero p
 
--- a state and what was answered
-pub record Feeding : Type 0 where
-  pub state : Pieces
-  pub answer : Said ℕ
-
-abbrev pub feed_said : FeedAnswer → Said ℕ
-feed_said (feed.Taken n) = gives n
-feed_said (feed.Refused why) = refuses (told why)
-
-abbrev pub fed_said : Fed → Feeding
-fed_said r = record { state = r.state; answer = feed_said r.answer }
-
 -- a fresh state of the edition that a number stands for; where it stands for none, refusal 14 and edition 2's
-abbrev pub fresh_by : (number : ℕ) → Feeding
-fresh_by n = onward (λ t. record { state = fresh_pieces Second; answer = refuses t }) (edition_of n) (λ e. record { state = fresh_pieces e; answer = gives 0 })
+abbrev pub fresh_by : (number : ℕ) → Fed
+fresh_by n = onward (λ t. record { state = fresh_pieces Second; answer = Err t }) (edition_of n) (λ e. record { state = fresh_pieces e; answer = Ok 0 })
 
 -- the rule for a piece of so many bytes at an offset, after so many bytes taken: the offset is looked at before the length
-abbrev pub accepted_at : (taken offset len : ℕ) → Said ℕ
+abbrev pub accepted_at : (taken offset len : ℕ) → Answer ℕ
 accepted_at taken offset len =
     pick (eqb offset taken)
-    (pick (leb (taken + len) longest) (gives (taken + len)) (refused 6 0 0))
-    (refused 5 taken 0)
+    (pick (leb (taken + len) longest) (Ok (taken + len)) (Err TooLong))
+    (Err (WrongOffset taken))
 
 -- the state after an answer: with the piece and of the same edition, or as it was
-abbrev pub state_after : Pieces → List ℕ → Said ℕ → Pieces
+abbrev pub state_after : Pieces → List ℕ → Answer ℕ → Pieces
 state_after s piece answer = onward (λ t. s) answer (λ total. record { kept = overlaid s.kept s.taken piece; taken = total; edition = s.edition })
 
-abbrev pub fed_by : Pieces → (offset : ℕ) → List ℕ → Feeding
+abbrev pub fed_by : Pieces → (offset : ℕ) → List ℕ → Fed
 fed_by s offset piece =
     let answer = accepted_at s.taken offset (length piece) in
     record { state = state_after s piece answer; answer = answer }

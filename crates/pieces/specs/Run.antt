@@ -1,7 +1,7 @@
 -- A run of calls of `feed`. Which of its pieces are taken, and what each call is answered, is said of the calls alone. Assumes nothing.
 use Rattle.std.specs.Prelude.{ℕ, ◌+◌, Bool, true, false, List, [], ◌∷◌, ◌++◌, length}
 use Rattle.reading.specs.Pick.{pick}
-use Rattle.reading.specs.Said.{Said, onward}
+use Rattle.reading.specs.Refusal.{Answer, onward}
 use Rattle.rules.specs.declared.Edition.{Edition}
 use Rattle.pieces.specs.Fed.{fresh_pieces, accepted_at, fed_by}
 use Rattle.pieces.specs.declared.Pieces.{Pieces}
@@ -11,7 +11,7 @@ pub record Call : Type 0 where
   pub piece : List ℕ
 
 -- the answer to a call after n bytes, and whether its piece is taken
-abbrev pub answer_at : ℕ → Call → Said ℕ
+abbrev pub answer_at : ℕ → Call → Answer ℕ
 answer_at n c = accepted_at n c.offset (length c.piece)
 
 abbrev pub takes : ℕ → Call → Bool
@@ -41,12 +41,12 @@ abbrev pub run : Edition → List Call → Pieces
 run e cs = run_from (fresh_pieces e) cs
 
 -- the answers to a run of calls after n bytes
-unfoldable pub answers_from : ℕ → List Call → List (Said ℕ)
+unfoldable pub answers_from : ℕ → List Call → List (Answer ℕ)
 answers_from n [] = []
 answers_from n (c ∷ cs) = answer_at n c ∷ answers_from (pick (takes n c) (n + length c.piece) n) cs
 
 -- the answers that the states give
-unfoldable pub said_from : Pieces → List Call → List (Said ℕ)
+unfoldable pub said_from : Pieces → List Call → List (Answer ℕ)
 said_from s [] = []
 said_from s (c ∷ cs) = (fed_by s c.offset c.piece).answer ∷ said_from (fed_by s c.offset c.piece).state cs
 

@@ -1,4 +1,4 @@
-// What the programs write to standard output. Nothing is promised of it, since no clause can say which bytes reach the system.
+//! What the programs write to standard output. Nothing is promised of it, since no clause can say which bytes reach the system.
 #![tactic(auto)]
 
 use reading::Refusal;
@@ -12,30 +12,16 @@ pub fn decimal(rt: &impl Print, n: usize) -> io::Result<()> {
     rt.print(n)
 }
 
-// A space and a number in decimal.
+/// A space and a number in decimal.
 pub fn number(rt: &impl Print, n: usize) -> io::Result<()> {
-    text(rt, b" ")?;
-    decimal(rt, n)
+    print!(rt; " {n}")
 }
 
-// A refusal's number and the values that it carries.
+/// A refusal's number and the values that it carries.
 pub fn refused(rt: &impl Print, why: Refusal) -> io::Result<()> {
-    text(rt, b" refused")?;
-    number(rt, why.number() as usize)?;
-    let carried = why.carries();
-    if 0 < carried {
-        number(rt, why.first())?;
-    }
-    if 1 < carried {
-        number(rt, why.second())?;
-    }
-    Ok(())
+    print!(rt; " refused {why}")
 }
 
 pub fn yes(rt: &impl Print, so: bool) -> io::Result<()> {
-    if so {
-        text(rt, b" yes")
-    } else {
-        text(rt, b" no")
-    }
+    text(rt, if so { b" yes" } else { b" no" })
 }

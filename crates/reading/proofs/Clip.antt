@@ -2,7 +2,7 @@
 use Prim.Native.Nat.{ℕ}
 use mathlib.Core.Path.{◌≡◌, refl, ap, sym, ◌∙◌}
 use mathlib.Core.List.{List}
-use mathlib.Core.Bool.{Bool, true, false}
+use mathlib.Core.Bool.{Bool, true}
 use native.Mathlib.Omega.{arith}
 use lib.ListN.{length, get_or, take, length-take, get_or-eq_default}
 use lib.Seq.{get_or-take}
@@ -13,13 +13,10 @@ use Rattle.reading.specs.View.{View, view, clip, Within}
 
 module _ (n : ℕ) (b : List ℕ) where
   byte_of : (i : ℕ) (t : Bool) → ltb i n ≡ t → get_or (take n b) i 0 ≡ pick t (get_or b i 0) 0
-  byte_of i true e = get_or-take n b i 0 (ltb-true i n e)
-  byte_of i false e = get_or-eq_default (take n b) 0 (omega (arith, length-take n b, ltb-false i n e))
+  byte_of i t e = grind (arith, length-take, get_or-take, get_or-eq_default, ltb-true, ltb-false)
 
   below_of : (k : ℕ) (t u : Bool) → leb k n ≡ t → ltb (length b) k ≡ u → ltb (length (take n b)) k ≡ pick t u true
-  below_of k true true e f = lt-ltb (length (take n b)) k (omega (arith, length-take n b, leb-true k n e, ltb-true (length b) k f))
-  below_of k true false e f = le-ltb (length (take n b)) k (omega (arith, length-take n b, leb-true k n e, ltb-false (length b) k f))
-  below_of k false u e f = lt-ltb (length (take n b)) k (omega (arith, length-take n b, leb-false k n e))
+  below_of k t u e f = grind (arith, length-take, lt-ltb, le-ltb, leb-true, leb-false, ltb-true, ltb-false)
 
   pub view-take : view (take n b) ≡ clip n (view b)
   view-take i =

@@ -6,5 +6,4 @@ pub mod Lacking
 pub mod Smallest
 pub mod Reach
 pub mod Made
-pub mod Copied
 pub mod Refused

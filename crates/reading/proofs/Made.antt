@@ -1,11 +1,10 @@
 -- The view of an image made from a few bytes, which computes without walking the list of all its bytes. Assumes nothing.
-use Prim.Native.Nat.{ℕ, zero, suc, zero-le, suc-le-suc, ◌≤◌}
+use Prim.Native.Nat.{ℕ, zero, suc, ◌≤◌}
 use mathlib.Core.Path.{◌≡◌, refl, ap}
 use mathlib.Core.List.{List, [], ◌∷◌}
 use native.Mathlib.Omega.{arith}
 use lib.ListN.{length, get_or, take}
 use lib.Dec.{ltb, leb-suc-suc, leb-suc-zero}
-use borrow.Author.Tests.{lt-ltb}
 use Rattle.reading.specs.Pick.{pick}
 use Rattle.reading.specs.View.{View, view}
 use Rattle.reading.specs.Made.{Image, sparse, firsts, bytes_of}
@@ -20,9 +19,9 @@ length-firsts (suc n) f = ap suc (length-firsts n (λ i. f (suc i)))
 
 pub get_or-firsts : (n : ℕ) (f : ℕ → ℕ) (i : ℕ) → get_or (firsts n f) i 0 ≡ pick (ltb i n) (f i) 0
 unfolding firsts
-get_or-firsts zero f i = rw (leb-suc-zero i)
-get_or-firsts (suc n) f zero = rw (lt-ltb 0 (suc n) (suc-le-suc zero-le))
-get_or-firsts (suc n) f (suc i) = rw (leb-suc-suc (suc i) n) (get_or-firsts n (λ j. f (suc j)) i)
+get_or-firsts zero f i = grind (arith, leb-suc-zero)
+get_or-firsts (suc n) f zero = grind arith
+get_or-firsts (suc n) f (suc i) = grind (arith, leb-suc-suc, get_or-firsts n)
 
 -- as many bytes of the front of a list as it has
 pub front-is : (n : ℕ) (s : List ℕ) → n ≤ length s → take n s ≡ firsts n (λ i. get_or s i 0)

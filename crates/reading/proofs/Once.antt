@@ -1,9 +1,11 @@
 -- Two different refusals never have the same number and values, and no more do two different answers: what is said can be read back.
 -- Assumes nothing.
-use mathlib.Core.Path.{◌≡◌, refl, ap, sym, ◌∙◌}
+use mathlib.Core.Path.{◌≡◌, ap, sym, ◌∙◌}
 use lib.Dec.{eqb}
+use native.Mathlib.Omega.{arith}
+use Rattle.std.specs.Prelude.{Result, Ok, Err}
 use Rattle.reading.specs.Pick.{pick}
-use Rattle.reading.specs.Said.{Told, told, Said, gives, refuses}
+use Rattle.reading.specs.Refusal.{Told, told, Answer}
 use Rattle.reading.specs.declared.Refusal.{Refusal}
 use Rattle.reading.specs.declared.Refusal.TheVariants.{Truncated, NotDdr5, UnknownEnum, ListTooShort, WrongOffset, TooLong, ZeroClock, BufferTooSmall, ReportCut, ReportVersion, ReportMalformed, NotReportable, StrictDate, UnknownEdition, NegativeTime, NeitherSound}
 
@@ -28,27 +30,7 @@ untold t =
     NeitherSound))))))))))))))
 
 pub untold-told : (why : Refusal) → untold (told why) ≡ why
-untold-told (Truncated n) = refl
-untold-told (NotDdr5 b) = refl
-untold-told (UnknownEnum f c) = refl
-untold-told ListTooShort = refl
-untold-told (WrongOffset n) = refl
-untold-told TooLong = refl
-untold-told ZeroClock = refl
-untold-told BufferTooSmall = refl
-untold-told ReportCut = refl
-untold-told ReportVersion = refl
-untold-told ReportMalformed = refl
-untold-told NotReportable = refl
-untold-told StrictDate = refl
-untold-told UnknownEdition = refl
-untold-told (NegativeTime p) = refl
-untold-told NeitherSound = refl
-
--- an answer whose cases are a value and a refusal, read back
-abbrev pub unsaid : {A E : Type 0} → (A → E) → (Refusal → E) → Said A → E
-unsaid value refused (gives a) = value a
-unsaid value refused (refuses t) = refused (untold t)
+untold-told why = grind arith
 
 -- what can be read back is said of one answer alone
 pub once : {E S : Type 0} (say : E → S) (back : S → E) → ((e : E) → back (say e) ≡ e) → (a b : E) → say a ≡ say b → a ≡ b
@@ -56,3 +38,19 @@ once say back h a b e = sym (h a) ∙ ap back e ∙ h b
 
 pub told-once : (a b : Refusal) → told a ≡ told b → a ≡ b
 told-once = once told untold untold-told
+
+-- an answer in document 01's words: the value, or the refusal's number and what it carries
+abbrev pub worded : {A : Type 0} → Answer A → Result A Told
+worded (Ok a) = Ok a
+worded (Err why) = Err (told why)
+
+abbrev unworded : {A : Type 0} → Result A Told → Answer A
+unworded (Ok a) = Ok a
+unworded (Err t) = Err (untold t)
+
+unworded-worded : {A : Type 0} (a : Answer A) → unworded (worded a) ≡ a
+unworded-worded a = grind (arith, untold-told)
+
+-- so of two answers that say the same, of whatever value, there is one alone
+pub answer-once : {A : Type 0} (a b : Answer A) → worded a ≡ worded b → a ≡ b
+answer-once = once worded unworded unworded-worded

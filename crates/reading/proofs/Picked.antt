@@ -3,12 +3,6 @@ use mathlib.Core.Path.{◌≡◌, refl, sym}
 use mathlib.Core.Bool.{Bool, true, false, true≢false}
 use Rattle.reading.specs.Pick.{pick, and}
 
-pub if-so : {A : Type 0} (t : Bool) (a b : A) → t ≡ true → pick t a b ≡ a
-if-so t a b e = rw e
-
-pub if-not : {A : Type 0} (t : Bool) (a b : A) → t ≡ false → pick t a b ≡ b
-if-not t a b e = rw e
-
 -- a function of what is picked picks between its values
 pub pick-ap : {A B : Type 0} (f : A → B) (t : Bool) (a b : A) → f (pick t a b) ≡ pick t (f a) (f b)
 pick-ap f true a b = refl

@@ -1,6 +1,6 @@
 pub mod Pick
 pub mod View
-pub mod Said
+pub mod Refusal
 pub mod Bytes
 pub mod Ranges
 pub mod Lent

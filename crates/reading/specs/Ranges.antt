@@ -1,21 +1,14 @@
 -- Document 02, 2026-01: which byte is missing. What a decoder reads is a list of ranges, each by its start and its number of bytes; the
 -- smallest offset of them that the image lacks is the one that the bench is told. Assumes nothing.
-use Rattle.std.specs.Prelude.{ℕ, zero, suc, ◌+◌, ◌-◌, min, max, ◌≡◌, List, [], ◌∷◌, Bool, true, false, leb, ltb}
+use Rattle.std.specs.Prelude.{ℕ, zero, suc, ◌+◌, ◌-◌, min, max, ◌≡◌, List, [], ◌∷◌, Bool, true, false, leb, ltb, Option, Some, None, zip}
 use Rattle.reading.specs.Pick.{pick, and}
+use Rattle.reading.specs.declared.Refusal.TheVariants.{Truncated}
 use Rattle.reading.specs.View.{View}
-use Rattle.reading.specs.Said.{Told, no}
-use Rattle.reading.specs.declared.Missing.{Missing}
-use Rattle.reading.specs.declared.Missing.TheVariants.{Nothing, At}
+use Rattle.reading.specs.declared.Refusal.{Refusal}
 
--- what is made of each place of two tables
-abbrev pub zipped : {A : Type 0} → (ℕ → ℕ → A) → List ℕ → List ℕ → List A
-zipped f [] ys = []
-zipped f (x ∷ xs) [] = []
-zipped f (x ∷ xs) (y ∷ ys) = f x y ∷ zipped f xs ys
-
--- the ranges that stand in a table of starts and one of lengths
+-- the ranges that stand in a table of starts and one of lengths, as many as the shorter has places
 abbrev pub ranges_of : (starts lengths : List ℕ) → List (ℕ × ℕ)
-ranges_of starts lengths = zipped (λ start n. (start, n)) starts lengths
+ranges_of starts lengths = zip starts lengths
 
 -- an offset lies in a range, and in one of several
 abbrev pub in_range : (start n i : ℕ) → Bool
@@ -26,30 +19,30 @@ reads [] i = false
 reads ((start, n) ∷ ranges) i = pick (in_range start n i) true (reads ranges i)
 
 -- the first of the n offsets from i on that the image lacks
-abbrev pub first_lacking : View → ℕ → ℕ → Missing
-first_lacking v i zero = Nothing
-first_lacking v i (suc n) = pick (v.below (suc i)) (At i) (first_lacking v (suc i) n)
+abbrev pub first_lacking : View → ℕ → ℕ → Option ℕ
+first_lacking v i zero = None
+first_lacking v i (suc n) = pick (v.below (suc i)) (Some i) (first_lacking v (suc i) n)
 
 -- the smaller of two, where there are two
-abbrev pub smaller : Missing → Missing → Missing
-smaller Nothing b = b
-smaller (At i) Nothing = At i
-smaller (At i) (At j) = At (min i j)
+abbrev pub smaller : Option ℕ → Option ℕ → Option ℕ
+smaller None b = b
+smaller (Some i) None = Some i
+smaller (Some i) (Some j) = Some (min i j)
 
 -- the smallest that is read and that the image lacks
-unfoldable pub missing_at : List (ℕ × ℕ) → View → Missing
-missing_at [] v = Nothing
+unfoldable pub missing_at : List (ℕ × ℕ) → View → Option ℕ
+missing_at [] v = None
 missing_at ((start, n) ∷ ranges) v = smaller (first_lacking v start n) (missing_at ranges v)
 
 -- refusal 1 with the offset that is missing, 0 where none is
-abbrev pub truncated_by : Missing → Told
-truncated_by (At i) = no 1 i 0
-truncated_by Nothing = no 1 0 0
+abbrev pub truncated_by : Option ℕ → Refusal
+truncated_by (Some i) = Truncated i
+truncated_by None = Truncated 0
 
 -- goes on where nothing is missing, and else stops at that refusal
-abbrev pub whole : {X : Type 0} → (Told → X) → Missing → X → X
-whole stop (At i) x = stop (truncated_by (At i))
-whole stop Nothing x = x
+abbrev pub whole : {X : Type 0} → (Refusal → X) → Option ℕ → X → X
+whole stop (Some i) x = stop (truncated_by (Some i))
+whole stop None x = x
 
 -- how many bytes an image has that lacks none: up to the last that is read
 abbrev pub reach_of : List (ℕ × ℕ) → ℕ

@@ -1,59 +1,62 @@
-// Reading a lent image: a byte at an offset, or a region, absent where the image is too short.
-// Every offset and every length has an answer, also where their sum would not fit in a usize.
+//! Reading a lent image: a byte at an offset, or a region, absent where the image is too short.
+//! Every offset and every length has an answer, also where their sum would not fit in a usize.
 #![tactic(auto)]
 
-ghost use Rattle.std.specs.Prelude.{◌≡◌};
+ghost use Rattle.std.specs.Prelude.{◌≡◌, None, fold};
 ghost use Rattle.reading.specs.View.{view};
-ghost use Rattle.reading.specs.Said.{told, carried};
+ghost use Rattle.reading.specs.Refusal.{told, carried};
 ghost use Rattle.reading.specs.Bytes.{byte_at, inside_at, region_of};
 ghost use Rattle.reading.specs.Ranges.{ranges_of, first_lacking, smaller, missing_at, truncated_by};
 
-// Why a call was refused; specs/Said.antt has document 01's number for each case. One enum for all layers.
-#[derive(Clone, Copy)]
+use std::error::Error;
+use std::fmt;
+
+/// Why a call was refused; specs/Refusal.antt has document 01's number for each case. One enum for all layers.
+#[derive(Clone, Copy, Debug, PartialEq, Eq)]
 pub enum Refusal {
-    // The image lacks a byte that the decoder reads; the smallest such offset is carried.
+    /// The image lacks a byte that the decoder reads; the smallest such offset is carried.
     Truncated(usize),
-    // Byte 2 says another device type than the one that is decoded; it is carried.
+    /// Byte 2 says another device type than the one that is decoded; it is carried.
     NotDdr5(u8),
-    // A code that its field's table does not have.
+    /// A code that its field's table does not have.
     UnknownEnum { field: u8, value: u8 },
-    // The lent list has too few places.
+    /// The lent list has too few places.
     ListTooShort,
-    // The piece's offset is not the count of bytes taken, which is carried.
+    /// The piece's offset is not the count of bytes taken, which is carried.
     WrongOffset(usize),
-    // The image would pass 2,048 bytes.
+    /// The image would pass 2,048 bytes.
     TooLong,
-    // The clock table was asked for a cycle time of 0.
+    /// The clock table was asked for a cycle time of 0.
     ZeroClock,
-    // The buffer is too small for the report.
+    /// The buffer is too small for the report.
     BufferTooSmall,
-    // The report ends before its length says.
+    /// The report ends before its length says.
     ReportCut,
-    // The report is of another version.
+    /// The report is of another version.
     ReportVersion,
-    // The report is otherwise not as document 01 has it.
+    /// The report is otherwise not as document 01 has it.
     ReportMalformed,
-    // What is to be written is not the form's.
+    /// What is to be written is not the form's.
     NotReportable,
-    // In the strict mode, a date that is not decimal digits or whose week is not 1 to 53.
+    /// In the strict mode, a date that is not decimal digits or whose week is not 1 to 53.
     StrictDate,
-    // The edition is neither 1 nor 2.
+    /// The edition is neither 1 nor 2.
     UnknownEdition,
-    // A time of a DDR4 image is below zero; its place among them is carried, from 1.
+    /// A time of a DDR4 image is below zero; its place among them is carried, from 1.
     NegativeTime(u8),
-    // Of two reads neither is long enough and has a CRC that fits.
+    /// Of two reads neither is long enough and has a CRC that fits.
     NeitherSound,
 }
 
 impl Refusal {
-    // Document 01's number.
+    /// Document 01's number.
     pub fn number(self) -> u8
         ensures { result ≡ (told self).number }
     {
         match self {
             Refusal::Truncated(_) => 1,
             Refusal::NotDdr5(_) => 2,
-            Refusal::UnknownEnum { field: _, value: _ } => 3,
+            Refusal::UnknownEnum { .. } => 3,
             Refusal::ListTooShort => 4,
             Refusal::WrongOffset(_) => 5,
             Refusal::TooLong => 6,
@@ -70,188 +73,161 @@ impl Refusal {
         }
     }
 
-    // The first value that it carries, and 0 where it carries none.
+    /// The first value that it carries, and 0 where it carries none.
     pub fn first(self) -> usize
         ensures { result ≡ (told self).first }
     {
         match self {
             Refusal::Truncated(offset) => offset,
-            Refusal::NotDdr5(byte2) => byte2 as usize,
-            Refusal::UnknownEnum { field, value: _ } => field as usize,
-            Refusal::ListTooShort => 0,
+            Refusal::NotDdr5(byte2) => byte2.into(),
+            Refusal::UnknownEnum { field, .. } => field.into(),
             Refusal::WrongOffset(count) => count,
-            Refusal::TooLong => 0,
-            Refusal::ZeroClock => 0,
-            Refusal::BufferTooSmall => 0,
-            Refusal::ReportCut => 0,
-            Refusal::ReportVersion => 0,
-            Refusal::ReportMalformed => 0,
-            Refusal::NotReportable => 0,
-            Refusal::StrictDate => 0,
-            Refusal::UnknownEdition => 0,
-            Refusal::NegativeTime(place) => place as usize,
-            Refusal::NeitherSound => 0,
+            Refusal::NegativeTime(place) => place.into(),
+            _ => 0,
         }
     }
 
-    // The second, and 0 where it carries fewer than two.
+    /// The second, and 0 where it carries fewer than two.
     pub fn second(self) -> usize
         ensures { result ≡ (told self).second }
     {
         match self {
-            Refusal::Truncated(_) => 0,
-            Refusal::NotDdr5(_) => 0,
-            Refusal::UnknownEnum { field: _, value } => value as usize,
-            Refusal::ListTooShort => 0,
-            Refusal::WrongOffset(_) => 0,
-            Refusal::TooLong => 0,
-            Refusal::ZeroClock => 0,
-            Refusal::BufferTooSmall => 0,
-            Refusal::ReportCut => 0,
-            Refusal::ReportVersion => 0,
-            Refusal::ReportMalformed => 0,
-            Refusal::NotReportable => 0,
-            Refusal::StrictDate => 0,
-            Refusal::UnknownEdition => 0,
-            Refusal::NegativeTime(_) => 0,
-            Refusal::NeitherSound => 0,
+            Refusal::UnknownEnum { value, .. } => value.into(),
+            _ => 0,
         }
     }
 
-    // How many values it carries.
+    /// How many values it carries.
     pub fn carries(self) -> usize
         ensures { result ≡ carried self }
     {
         match self {
-            Refusal::Truncated(_) => 1,
-            Refusal::NotDdr5(_) => 1,
-            Refusal::UnknownEnum { field: _, value: _ } => 2,
-            Refusal::ListTooShort => 0,
-            Refusal::WrongOffset(_) => 1,
-            Refusal::TooLong => 0,
-            Refusal::ZeroClock => 0,
-            Refusal::BufferTooSmall => 0,
-            Refusal::ReportCut => 0,
-            Refusal::ReportVersion => 0,
-            Refusal::ReportMalformed => 0,
-            Refusal::NotReportable => 0,
-            Refusal::StrictDate => 0,
-            Refusal::UnknownEdition => 0,
-            Refusal::NegativeTime(_) => 1,
-            Refusal::NeitherSound => 0,
+            Refusal::UnknownEnum { .. } => 2,
+            Refusal::Truncated(_)
+            | Refusal::NotDdr5(_)
+            | Refusal::WrongOffset(_)
+            | Refusal::NegativeTime(_) => 1,
+            _ => 0,
         }
     }
 }
 
-// What stands at an offset.
-#[derive(Clone, Copy)]
-pub enum ByteAt {
-    Byte(u8),
-    Absent,
-}
-
-// The byte at an offset.
-pub fn byte(image: &[u8], offset: usize) -> ByteAt
-    ensures { result ≡ byte_at (view image.now) offset }
-{
-    if offset < image.len() {
-        ByteAt::Byte(image[offset])
-    } else {
-        ByteAt::Absent
+// Its number and what it carries, as a listing prints them.
+impl fmt::Display for Refusal {
+    fn fmt<W: fmt::Write>(&self, f: &mut fmt::Formatter<W>) -> fmt::Result {
+        let number = self.number();
+        match self {
+            Refusal::Truncated(offset) => write!(f, "{number} {offset}"),
+            Refusal::NotDdr5(byte2) => write!(f, "{number} {byte2}"),
+            Refusal::UnknownEnum { field, value } => write!(f, "{number} {field} {value}"),
+            Refusal::WrongOffset(count) => write!(f, "{number} {count}"),
+            Refusal::NegativeTime(place) => write!(f, "{number} {place}"),
+            _ => write!(f, "{number}"),
+        }
     }
 }
 
-// The byte at an offset, and 0 past the end: what a decoder reads by once it has tested the length.
+impl Error for Refusal {}
+
+/// The byte at an offset.
+pub fn byte(image: &[u8], offset: usize) -> Option<u8>
+    ensures { result ≡ byte_at (view image.now) offset }
+{
+    image.get(offset).copied()
+}
+
+/// The byte at an offset, and 0 past the end: what a decoder reads by once it has tested the length.
 pub fn byte_or_zero(image: &[u8], offset: usize) -> u8
     ensures { result ≡ (view image.now).byte offset }
 {
-    match byte(image, offset) {
-        ByteAt::Byte(b) => b,
-        ByteAt::Absent => 0,
-    }
+    byte(image, offset).unwrap_or(0)
 }
 
-// Whether a region lies wholly inside the image.
+/// Whether a region lies wholly inside the image.
 pub fn inside(image: &[u8], offset: usize, len: usize) -> bool
     ensures { result ≡ inside_at (view image.now) offset len }
 {
-    if offset <= image.len() {
-        len <= image.len() - offset
-    } else {
-        false
-    }
+    offset <= image.len() && len <= image.len() - offset
 }
 
-// The region as a part of the caller's image, and an empty part where it does not lie wholly inside.
+/// The region as a part of the caller's image, and an empty part where it does not lie wholly inside.
 pub fn slice(image: &[u8], offset: usize, len: usize) -> &[u8]
     ensures { result.now ≡ region_of image.now offset len }
 {
     if inside(image, offset, len) {
         &image[offset..offset + len]
     } else {
-        &image[0..0]
+        &image[..0]
     }
 }
 
-// The smallest offset that is read and that the image lacks.
-#[derive(Clone, Copy)]
-pub enum Missing {
-    Nothing,
-    At(usize),
+/// What a decoder reads stands in a table, each range by its start and how many bytes it has: the smallest offset of them that the image
+/// lacks, where it lacks one.
+pub fn first_missing_in(image: &[u8], ranges: &[(u16, u16)]) -> Option<usize>
+    ensures { result ≡ missing_at ranges.now (view image.now) }
+{
+    smallest_missing_in(image, ranges)
 }
 
-// What a decoder reads stands in two tables, where each range starts and how many bytes it has: the smallest offset of them that the
-// image lacks.
-pub fn first_missing(image: &[u8], starts: &[u16], lengths: &[u16]) -> Missing
+/// Refusal 1 of an image that lacks a byte: with the smallest that it lacks, and with 0 where it lacks none.
+pub fn truncated_in(image: &[u8], ranges: &[(u16, u16)]) -> Refusal
+    ensures { result ≡ truncated_by (missing_at ranges.now (view image.now)) }
+{
+    Refusal::Truncated(first_missing_in(image, ranges).unwrap_or(0))
+}
+
+/// The same of two tables, one of starts and one of lengths; a start without a length is no range.
+// Kept: two tables beside each other, since that is what `first_missing` and `truncated` promise for; their lengths may differ.
+pub fn first_missing(image: &[u8], starts: &[u16], lengths: &[u16]) -> Option<usize>
     ensures { result ≡ missing_at (ranges_of starts.now lengths.now) (view image.now) }
 {
-    let mut least = Missing::Nothing;
-    let mut i: usize = 0;
-    while i < starts.len() {
-        if lengths.len() <= i {
-            return least;
-        }
-        least = smaller_of(least, first_lacking(image, starts[i], lengths[i]));
-        i += 1;
-    }
-    least
+    smallest_missing(image, starts, lengths)
 }
 
-// Refusal 1 of an image that lacks a byte: with the smallest that it lacks, and with 0 where it lacks none.
+/// Refusal 1 likewise, of two tables.
 pub fn truncated(image: &[u8], starts: &[u16], lengths: &[u16]) -> Refusal
-    ensures { told result ≡ truncated_by (missing_at (ranges_of starts.now lengths.now) (view image.now)) }
+    ensures { result ≡ truncated_by (missing_at (ranges_of starts.now lengths.now) (view image.now)) }
 {
-    match first_missing(image, starts, lengths) {
-        Missing::At(offset) => Refusal::Truncated(offset),
-        Missing::Nothing => Refusal::Truncated(0),
-    }
+    Refusal::Truncated(first_missing(image, starts, lengths).unwrap_or(0))
+}
+
+// The same, range by range. Kept: beside `smallest_missing_in`, since a function of any iterator would need a contract on what that yields, longer than this fold.
+fn smallest_missing(image: &[u8], starts: &[u16], lengths: &[u16]) -> Option<usize>
+    ensures { result ≡ fold (λ least range. smaller least (first_lacking (view image.now) range.0 range.1)) None (ranges_of starts.now lengths.now) }
+{
+    starts
+        .iter()
+        .zip(lengths)
+        .fold(None, |least, (&start, &len)| {
+            smaller_of(least, first_lacking(image, start, len))
+        })
+}
+
+// The same, range by range.
+fn smallest_missing_in(image: &[u8], ranges: &[(u16, u16)]) -> Option<usize>
+    ensures { result ≡ fold (λ least range. smaller least (first_lacking (view image.now) range.0 range.1)) None ranges.now }
+{
+    ranges.iter().fold(None, |least, &(start, len)| {
+        smaller_of(least, first_lacking(image, start, len))
+    })
 }
 
 // The first offset of one range that the image lacks.
-fn first_lacking(image: &[u8], start: u16, len: u16) -> Missing
+#[tactic(auto, using(crate::proofs::Lacking::lacks))]
+fn first_lacking(image: &[u8], start: u16, len: u16) -> Option<usize>
     ensures { result ≡ first_lacking (view image.now) start len }
 {
-    let first = start as usize;
-    let end = first + len as usize;
-    let mut at = image.len();
-    if at < first {
-        at = first;
-    }
-    if at < end {
-        Missing::At(at)
-    } else {
-        Missing::Nothing
-    }
+    let first = usize::from(start);
+    let at = image.len().max(first);
+    (at < first + usize::from(len)).then_some(at)
 }
 
-fn smaller_of(a: Missing, b: Missing) -> Missing
+fn smaller_of(a: Option<usize>, b: Option<usize>) -> Option<usize>
     ensures { result ≡ smaller a b }
 {
-    let Missing::At(i) = a else {
-        return b;
-    };
-    let Missing::At(j) = b else {
-        return a;
-    };
-    if i < j { a } else { b }
+    match (a, b) {
+        (Some(i), Some(j)) => Some(i.min(j)),
+        (None, _) => b,
+        (_, None) => a,
+    }
 }

@@ -1,6 +1,6 @@
 -- Answers as the numbers of a record. Assumes nothing.
 use Rattle.std.specs.Prelude.{ℕ, Bool, true, false, List, [], ◌∷◌, ◌++◌, length, take}
-use Rattle.reading.specs.Said.{Said, Told, onward}
+use Rattle.reading.specs.Refusal.{Answer, Told, told, onward}
 use Rattle.decoders.specs.Codes.{device_code, module_code, gigabits_in, package_code, bits_in, groups_in, banks_in}
 use Rattle.decoders.specs.Timing.{rate_of}
 use Rattle.decoders.specs.declared.identity.IdentityAndBase.{IdentityAndBase}
@@ -84,9 +84,9 @@ abbrev pub found_numbers : Findings → List ℕ
 found_numbers found = found.count ∷ row_numbers (take found.count found.items)
 
 -- what a decoder says: the record's numbers, or the refusal's
-abbrev pub said_numbers : {A : Type 0} → (A → List ℕ) → Said A → List ℕ
-said_numbers numbers said = onward refusal_numbers said numbers
+abbrev pub said_numbers : {A : Type 0} → (A → List ℕ) → Answer A → List ℕ
+said_numbers numbers said = onward (λ why. refusal_numbers (told why)) said numbers
 
 -- the data rate, where there are timings
-abbrev pub rate_numbers : Said Timings → List ℕ
+abbrev pub rate_numbers : Answer Timings → List ℕ
 rate_numbers said = onward (λ t. 0 ∷ []) said (λ t. 1 ∷ rate_of t.tckavg_min.0 ∷ [])

@@ -1,8 +1,9 @@
 -- How a record's numbers are read, and how they are held against ours. Assumes nothing.
 use Rattle.std.specs.Prelude.{ℕ, zero, suc, ◌+◌, ◌*◌, false, List, [], ◌∷◌, eqb, ltb}
 use Rattle.reading.specs.Pick.{pick}
-use Rattle.reading.specs.View.{View}
+use Rattle.reading.specs.View.{View, view}
 use Rattle.replay.specs.declared.Cursor.{Cursor}
+use Rattle.replay.specs.declared.Comparison.{Comparison}
 
 -- values of 16 and 32 bits, low byte first
 abbrev pub le16_in : View → ℕ → ℕ
@@ -29,6 +30,10 @@ held v c n =
 abbrev pub held_all : View → Cursor → List ℕ → Cursor
 held_all v c [] = c
 held_all v c (n ∷ ns) = held_all v (held v c n) ns
+
+-- the same for a record with its cursor
+abbrev pub compared : Comparison → List ℕ → Comparison
+compared c ours = record { bytes = c.bytes; cursor = held_all (view c.bytes.now) c.cursor ours }
 
 -- the numbers that stand from a place on, so many of them
 abbrev pub numbers_from : View → (at count : ℕ) → List ℕ

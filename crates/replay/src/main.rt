@@ -1,134 +1,150 @@
-// Replays the Rust linter's answers: rebuilds each image of a list, asks the decoders and, under edition 2, the rules, and compares every
-// number and every severity with those of the list. First it runs the bench lines of document 01 that are not proved and not run elsewhere.
-//
-// The list comes on standard input. The file `stdin` beside src/ is what `judge/list.rs` writes when it is run as `list fixed`: the
-// answers of spdr (The-Open-Memory-Initiative-OMI/spdr at 6b0d2d55f1), with judge/vendor.rs for its one file that is not at hand.
-// `make list` makes it anew where the Rust is at hand, and compares. 16-bit and 32-bit values stand low byte first.
-//
-//     list    the eight letters ROOSTLST, the count of records (32 bits), the records
-//     record  the count of bytes that follow (16 bits), a kind (a byte), the rest
-//     kind 0  a base image: its bytes; behind them it is zero
-//     kind 1  an image: its length (16 bits), the count of bytes in which it differs from the last base image (8 bits), each of these as
-//             offset (16 bits) and value (8 bits), then the answers, as numbers
-//     kind 2  the same, where the answers are document 01's and docs/DIFFERENCES.md lists that the Rust answers otherwise
-//
-// A number is one byte below 254; or 254 and 16 bits; or 255 and 32 bits. The answers, in this order:
-//
-//     identity  0 and the record's eighteen numbers, or the refusal: its number and two values, 0 where it carries none
-//     timings   0 and the record's twenty-eight numbers without the CAS set, or the refusal
-//     rate      0 without timings, else 1 and the data rate
-//     cas       0 without timings, else 1, the count and the CAS latencies
-//     findings  the count, and of each code, severity (1 error, 2 warning, 3 info), sub and three numbers
-//     rated     0 without a rated profile, else 1 and its findings as above. An image of at least 672 bytes has one where byte 640 starts
-//               ROOSTCRD; behind it stand cycle time, tAA, tRCD, tRP, tRAS and data rate (32 bits each). judge/vendor.rs reads it too.
+//! Replays the Rust linter's answers: rebuilds each image of a list, asks the decoders and, under edition 2, the rules, and compares every
+//! number and every severity with those of the list. First it runs the bench lines of document 01 that are not proved and not run elsewhere.
+//!
+//! The list comes on standard input. The file `stdin` beside src/ is what `judge/list.rs` writes when it is run as `list fixed`: the
+//! answers of spdr (The-Open-Memory-Initiative-OMI/spdr at 6b0d2d55f1), with judge/vendor.rs for its one file that is not at hand.
+//! `make list` makes it anew where the Rust is at hand, and compares. 16-bit and 32-bit values stand low byte first.
+//!
+//!     list    the eight letters ROOSTLST, the count of records (32 bits), the records
+//!     record  the count of bytes that follow (16 bits), a kind (a byte), the rest
+//!     kind 0  a base image: its bytes; behind them it is zero
+//!     kind 1  an image: its length (16 bits), the count of bytes in which it differs from the last base image (8 bits), each of these as
+//!             offset (16 bits) and value (8 bits), then the answers, as numbers
+//!     kind 2  the same, where the answers are document 01's and docs/DIFFERENCES.md lists that the Rust answers otherwise
+//!
+//! A number is one byte below 254; or 254 and 16 bits; or 255 and 32 bits. The answers, in this order:
+//!
+//!     identity  0 and the record's eighteen numbers, or the refusal: its number and two values, 0 where it carries none
+//!     timings   0 and the record's twenty-eight numbers without the CAS set, or the refusal
+//!     rate      0 without timings, else 1 and the data rate
+//!     cas       0 without timings, else 1, the count and the CAS latencies
+//!     findings  the count, and of each code, severity (1 error, 2 warning, 3 info), sub and three numbers
+//!     rated     0 without a rated profile, else 1 and its findings as above. An image of at least 672 bytes has one where byte 640 starts
+//!               ROOSTCRD; behind it stand cycle time, tAA, tRCD, tRP, tRAS and data rate (32 bits each). judge/vendor.rs reads it too.
 #![tactic(auto)]
 
-ghost use Rattle.std.specs.Prelude.{◌≡◌, ◌<◌, ◌≤◌, take};
+ghost use Rattle.std.specs.Prelude.{◌≡◌, ◌<◌, ℕ, List, [], ◌∷◌};
 ghost use Rattle.reading.specs.View.{view};
-ghost use Rattle.reading.specs.Said.{told};
+ghost use Rattle.reading.specs.Refusal.{told};
 ghost use Rattle.decoders.specs.Identity.{identity_of};
 ghost use Rattle.decoders.specs.Timing.{timings_of};
 ghost use Rattle.rules.specs.declared.Edition.TheVariants.{Second};
 ghost use Rattle.rules.specs.Lint.{findings_of};
-ghost use Rattle.replay.specs.Held.{le16_in, le32_in, packed_in, behind, held, held_all};
-ghost use Rattle.replay.specs.Answers.{bit_of, rank_of, refusal_numbers, identity_record, timing_record, said_numbers, rate_numbers};
+ghost use Rattle.replay.specs.Held.{le16_in, le32_in, packed_in, behind, compared};
+ghost use Rattle.replay.specs.Answers.{rank_of, refusal_numbers, identity_record, timing_record, said_numbers, rate_numbers};
 ghost use Rattle.replay.specs.Answers.{finding_record, row_numbers, list_numbers, found_numbers};
 
-use decoders::identity::{IdentityAndBase, IdentityAnswer};
-use decoders::timing::{CasLatencies, CasListAnswer, Picoseconds, Timings, TimingsAnswer};
+use decoders::identity::IdentityAndBase;
+use decoders::timing::{CasLatencies, Picoseconds, Timings};
 use findings::{Finding, Findings, Severity};
-use printing::{decimal, text};
+use printing::text;
 use reading::Refusal;
 use rules::{Edition, RatedTimings};
-use std::io;
 use std::io::{ErrorKind, Read};
+use std::{fmt, io};
 
 // So many differences are told one by one; the others are only counted.
 const TOLD: usize = 20;
 
+// Where a rated profile stands in an image, and what it starts with.
+const PROFILE_START: usize = 640;
+
+const PROFILE_END: usize = 672;
+
+const PROFILE_LETTERS: &[u8] = b"ROOSTCRD";
+
+// What a list starts with.
+const LIST_LETTERS: &[u8] = b"ROOSTLST";
+
+// The longest record that is read, the longest image, and the image of the bench.
+const RECORD_MAX: usize = 4096;
+
+const IMAGE_MAX: usize = 2048;
+
+const MODULE_BYTES: usize = 236;
+
+// So many CAS latencies a set has at most.
+const CAS_MAX: usize = 40;
+
 // The place of a record's next number, and whether every number before it was ours.
+// Kept: a flag beside the place, since held, held_all, all_same and same-all speak of both.
 #[derive(Clone, Copy)]
 struct Cursor {
     at: usize,
     same: bool,
 }
 
-// A number of a record, and the place behind it.
+// A record, and how far its numbers were compared with ours.
 #[derive(Clone, Copy)]
-struct Numeral {
-    value: u64,
-    next: usize,
+struct Comparison<'a> {
+    bytes: &'a [u8],
+    cursor: Cursor,
 }
 
-// What stands at byte 640 of an image.
+// An answer of an image.
 #[derive(Clone, Copy)]
-enum Profile {
-    Absent,
-    Rated(RatedTimings),
+enum Item {
+    Identity,
+    Timings,
+    DataRate,
+    CasLatencies,
+    Findings,
+    RatedFindings,
 }
 
-// How an image compares: the first of its answers that is not the list's.
+impl fmt::Display for Item {
+    fn fmt<W: fmt::Write>(&self, f: &mut fmt::Formatter<W>) -> fmt::Result {
+        f.write_str(match self {
+            Item::Identity => "identity",
+            Item::Timings => "timings",
+            Item::DataRate => "data rate",
+            Item::CasLatencies => "CAS latencies",
+            Item::Findings => "findings",
+            Item::RatedFindings => "rated findings",
+        })
+    }
+}
+
+// How an image's answers are not the list's.
 #[derive(Clone, Copy)]
-enum Verdict {
-    Same,
-    Differs(u8),
+enum Fault {
+    // The first of them that is another.
+    Differs(Item),
     // The record does not end with its answers.
     Malformed,
 }
 
+// Why a replay ends before its list does.
+#[derive(Drop)]
+enum Stop {
+    Malformed,
+    Failed(io::Error),
+}
+
+impl From<io::Error> for Stop {
+    fn from(e: io::Error) -> Self {
+        Stop::Failed(e)
+    }
+}
+
 // Where the replay stands.
-#[derive(Clone, Copy)]
+#[derive(Drop)]
 struct State {
-    base: [u8; 2048],
+    base: [u8; IMAGE_MAX],
     images: usize,
     differences: usize,
     listed: usize,
-    malformed: bool,
-}
-
-fn wide(x: u8) -> usize
-    ensures { (result ≡ x) × (result < 256) }
-{
-    x as usize
-}
-
-fn from8(x: u8) -> u64
-    ensures { result ≡ x }
-{
-    x as u64
-}
-
-fn from16(x: u16) -> u64
-    ensures { result ≡ x }
-{
-    x as u64
-}
-
-fn from32(x: u32) -> u64
-    ensures { result ≡ x }
-{
-    x as u64
-}
-
-fn bit(set: bool) -> u32
-    ensures { result ≡ bit_of set }
-{
-    if set { 1 } else { 0 }
-}
-
-// One more, as far as a count goes.
-fn more(n: usize) -> usize {
-    if n < 4294967295 { n + 1 } else { n }
 }
 
 // Two bytes at a place, low byte first; a byte past the end is 0.
-fn le16(bytes: &[u8], at: usize) -> usize
+// Kept: this and le32, each its bytes by hand: tried as one `bytes_at` of N bytes by `from_fn`, and its proof did not close.
+fn le16(bytes: &[u8], at: usize) -> u16
     requires { at < 131072 }
-    ensures { (result ≡ le16_in (view bytes.now) at) × (result < 65536) }
+    ensures { result ≡ le16_in (view bytes.now) at }
 {
-    let low = wide(reading::byte_or_zero(bytes, at));
-    let high = wide(reading::byte_or_zero(bytes, at + 1));
-    low + 256 * high
+    let low = reading::byte_or_zero(bytes, at);
+    let high = reading::byte_or_zero(bytes, at + 1);
+    u16::from_le_bytes([low, high])
 }
 
 // Four bytes at a place, low byte first.
@@ -136,174 +152,252 @@ fn le32(bytes: &[u8], at: usize) -> u32
     requires { at < 65600 }
     ensures { result ≡ le32_in (view bytes.now) at }
 {
-    let low = le16(bytes, at);
-    let high = le16(bytes, at + 2);
-    (low + 65536 * high) as u32
+    let byte = |i| reading::byte_or_zero(bytes, at + i);
+    u32::from_le_bytes([byte(0), byte(1), byte(2), byte(3)])
 }
 
-// The number at a place of a record.
+// The number at a place of a record, and the place behind it.
 #[tactic(auto, unfolding(crate::specs::Held::packed_in, crate::specs::Held::behind))]
-fn number(record: &[u8], at: usize) -> Numeral
+fn number(bytes: &[u8], at: usize) -> (u64, usize)
     requires { at < 65536 }
-    ensures { (result.value ≡ packed_in (view «record».now) at) × (result.next ≡ behind (view «record».now) at) }
+    ensures value { result.0 ≡ packed_in (view bytes.now) at }
+    ensures next { result.1 ≡ behind (view bytes.now) at }
 {
-    let head = reading::byte_or_zero(record, at);
-    if head < 254 {
-        return Numeral {
-            value: from8(head),
-            next: at + 1,
+    match reading::byte_or_zero(bytes, at) {
+        255 => (u64::from(le32(bytes, at + 1)), at + 5),
+        254 => (u64::from(le16(bytes, at + 1)), at + 3),
+        small => (u64::from(small), at + 1),
+    }
+}
+
+// What the list has as numbers, one behind the other.
+trait Numbers {
+    ghost numbers_of: { Self → List ℕ };
+
+    // Compares the next numbers of a record with its own.
+    fn expected_by<'a>(self, next: Comparison<'a>) -> Comparison<'a>
+        ensures { result ≡ compared next.entry (numbers_of self) };
+}
+
+impl Numbers for IdentityAndBase {
+    ghost numbers_of = { identity_record };
+
+    fn expected_by<'a>(self, next: Comparison<'a>) -> Comparison<'a> {
+        next.expect_all(&[
+            0,
+            u32::from(self.spd_bytes_total),
+            u32::from(self.spd_revision.major),
+            u32::from(self.spd_revision.minor),
+            u32::from(self.device_type.code()),
+            u32::from(self.module_type.code()),
+            u32::from(self.hybrid),
+            u32::from(self.density_per_die.gigabits()),
+            u32::from(self.package_type.code()),
+            u32::from(self.die_count),
+            u32::from(self.row_address_bits),
+            u32::from(self.column_address_bits),
+            u32::from(self.io_width.bits()),
+            u32::from(self.bank_groups.count()),
+            u32::from(self.banks_per_bank_group.count()),
+            u32::from(self.package_ranks_per_channel),
+            u32::from(self.rank_mix_asymmetric),
+            u32::from(self.channels_per_dimm),
+            u32::from(self.primary_bus_width_bits),
+        ])
+    }
+}
+
+impl Numbers for Timings {
+    ghost numbers_of = { timing_record };
+
+    fn expected_by<'a>(self, next: Comparison<'a>) -> Comparison<'a> {
+        next.expect_all(&[
+            0,
+            self.tckavg_min.0,
+            self.tckavg_max.0,
+            self.taa.0,
+            self.trcd.0,
+            self.trp.0,
+            self.tras.0,
+            self.trc.0,
+            self.twr.0,
+            self.trfc1.0,
+            self.trfc2.0,
+            self.trfcsb.0,
+            self.trrd_l.time.0,
+            u32::from(self.trrd_l.clocks.0),
+            self.tccd_l.time.0,
+            u32::from(self.tccd_l.clocks.0),
+            self.tccd_l_wr.time.0,
+            u32::from(self.tccd_l_wr.clocks.0),
+            self.tccd_l_wr2.time.0,
+            u32::from(self.tccd_l_wr2.clocks.0),
+            self.tfaw.time.0,
+            u32::from(self.tfaw.clocks.0),
+            self.twtr_l.time.0,
+            u32::from(self.twtr_l.clocks.0),
+            self.twtr_s.time.0,
+            u32::from(self.twtr_s.clocks.0),
+            self.trtp.time.0,
+            u32::from(self.trtp.clocks.0),
+        ])
+    }
+}
+
+impl Numbers for Finding {
+    ghost numbers_of = { finding_record };
+
+    fn expected_by<'a>(self, next: Comparison<'a>) -> Comparison<'a> {
+        next.expect_all(&[
+            u32::from(self.code),
+            rank(self.severity),
+            u32::from(self.sub),
+            self.first,
+            self.second,
+            self.third,
+        ])
+    }
+}
+
+impl Comparison<'_> {
+    // Compares the next number of the record with ours.
+    #[tactic(auto, unfolding(crate::specs::Held::held))]
+    fn expect(self, ours: u64) -> Self
+        ensures { result ≡ compared self.entry (ours ∷ []) }
+    {
+        let Cursor { at, same } = self.cursor;
+        let cursor = if 65535 < at {
+            Cursor { at, same: false }
+        } else {
+            let (theirs, next) = number(self.bytes, at);
+            Cursor {
+                at: next,
+                same: theirs == ours && same,
+            }
         };
-    }
-    if head == 254 {
-        return Numeral {
-            value: le16(record, at + 1) as u64,
-            next: at + 3,
-        };
-    }
-    Numeral {
-        value: from32(le32(record, at + 1)),
-        next: at + 5,
-    }
-}
-
-// Compares the next number of a record with ours.
-#[tactic(auto, unfolding(crate::specs::Held::held))]
-fn expect(record: &[u8], c: Cursor, ours: u64) -> Cursor
-    ensures { result ≡ held (view «record».now) c ours }
-{
-    let at = c.at;
-    if 65535 < at {
-        return Cursor { at, same: false };
-    }
-    let theirs = number(record, at);
-    if theirs.value == ours {
-        return Cursor {
-            at: theirs.next,
-            same: c.same,
-        };
-    }
-    Cursor {
-        at: theirs.next,
-        same: false,
-    }
-}
-
-// Compares the next numbers of a record with ours.
-fn expect_all(record: &[u8], c: Cursor, ours: &[u32]) -> Cursor
-    ensures { result ≡ held_all (view «record».now) c ours.now }
-{
-    let mut next = c;
-    let mut i: usize = 0;
-    while i < ours.len() {
-        next = expect(record, next, from32(ours[i]));
-        i += 1;
-    }
-    next
-}
-
-fn expect_refusal(record: &[u8], c: Cursor, why: Refusal) -> Cursor
-    ensures { result ≡ held_all (view «record».now) c (refusal_numbers (told why)) }
-{
-    let told = expect(record, c, from8(why.number()));
-    let first = expect(record, told, why.first() as u64);
-    expect(record, first, why.second() as u64)
-}
-
-fn expect_identity(record: &[u8], c: Cursor, d: IdentityAndBase) -> Cursor
-    ensures { result ≡ held_all (view «record».now) c (identity_record d) }
-{
-    let device_type = d.device_type;
-    let module_type = d.module_type;
-    let density_per_die = d.density_per_die;
-    let package_type = d.package_type;
-    let io_width = d.io_width;
-    let bank_groups = d.bank_groups;
-    let banks_per_bank_group = d.banks_per_bank_group;
-    let numbers = [
-        0,
-        d.spd_bytes_total as u32,
-        d.spd_revision.major as u32,
-        d.spd_revision.minor as u32,
-        device_type.code() as u32,
-        module_type.code() as u32,
-        bit(d.hybrid),
-        density_per_die.gigabits() as u32,
-        package_type.code() as u32,
-        d.die_count as u32,
-        d.row_address_bits as u32,
-        d.column_address_bits as u32,
-        io_width.bits() as u32,
-        bank_groups.count() as u32,
-        banks_per_bank_group.count() as u32,
-        d.package_ranks_per_channel as u32,
-        bit(d.rank_mix_asymmetric),
-        d.channels_per_dimm as u32,
-        d.primary_bus_width_bits as u32,
-    ];
-    expect_all(record, c, &numbers)
-}
-
-fn expect_timings(record: &[u8], c: Cursor, t: Timings) -> Cursor
-    ensures { result ≡ held_all (view «record».now) c (timing_record t) }
-{
-    let numbers = [
-        0,
-        t.tckavg_min.0,
-        t.tckavg_max.0,
-        t.taa.0,
-        t.trcd.0,
-        t.trp.0,
-        t.tras.0,
-        t.trc.0,
-        t.twr.0,
-        t.trfc1.0,
-        t.trfc2.0,
-        t.trfcsb.0,
-        t.trrd_l.time.0,
-        t.trrd_l.clocks.0 as u32,
-        t.tccd_l.time.0,
-        t.tccd_l.clocks.0 as u32,
-        t.tccd_l_wr.time.0,
-        t.tccd_l_wr.clocks.0 as u32,
-        t.tccd_l_wr2.time.0,
-        t.tccd_l_wr2.clocks.0 as u32,
-        t.tfaw.time.0,
-        t.tfaw.clocks.0 as u32,
-        t.twtr_l.time.0,
-        t.twtr_l.clocks.0 as u32,
-        t.twtr_s.time.0,
-        t.twtr_s.clocks.0 as u32,
-        t.trtp.time.0,
-        t.trtp.clocks.0 as u32,
-    ];
-    expect_all(record, c, &numbers)
-}
-
-// The CAS latencies of a set, ascending, behind their count.
-fn expect_cas(record: &[u8], c: Cursor, set: CasLatencies) -> Cursor {
-    let mut list = [0u16; 40];
-    match set.list(&mut list) {
-        CasListAnswer::Listed(n) => {
-            let one = expect(record, c, 1);
-            let counted = expect(record, one, n as u64);
-            expect_listed(record, counted, list, n)
+        Comparison {
+            bytes: self.bytes,
+            cursor,
         }
-        CasListAnswer::Refused(_) => expect(record, c, 0),
     }
-}
 
-fn expect_listed(record: &[u8], c: Cursor, list: [u16; 40], n: usize) -> Cursor {
-    let mut next = c;
-    let mut i: usize = 0;
-    while i < 40 {
-        if i < n {
-            next = expect(record, next, from16(list[i]));
+    // Compares the next numbers of the record with ours.
+    fn expect_all(self, ours: &[u32]) -> Self
+        ensures { result ≡ compared self.entry ours.now }
+    {
+        ours.iter()
+            .copied()
+            .fold(self, |so_far, n| so_far.expect(u64::from(n)))
+    }
+
+    // Kept: `as`, here and in the two that count, since there is no `From` from usize to u64.
+    fn expect_refusal(self, why: Refusal) -> Self
+        ensures { result ≡ compared self.entry (refusal_numbers (told why)) }
+    {
+        self.expect(u64::from(why.number()))
+            .expect(why.first() as u64)
+            .expect(why.second() as u64)
+    }
+
+    // What a decoder said.
+    fn expect_answer<T: Numbers>(self, answer: Result<T, Refusal>) -> Self
+        ensures { result ≡ compared self.entry (said_numbers T.numbers_of answer) }
+    {
+        match answer {
+            Ok(numbers) => numbers.expected_by(self),
+            Err(why) => self.expect_refusal(why),
         }
-        i += 1;
     }
-    next
+
+    // The CAS latencies of a set, ascending, behind their count.
+    fn expect_cas(self, set: CasLatencies) -> Self {
+        let mut list = [0u16; CAS_MAX];
+        match set.list(&mut list) {
+            Ok(n) => list
+                .iter()
+                .take(n)
+                .fold(self.expect(1).expect(n as u64), |so_far, &cl| {
+                    so_far.expect(u64::from(cl))
+                }),
+            Err(_) => self.expect(0),
+        }
+    }
+
+    // Findings one behind the other.
+    fn expect_row(self, row: &[Finding]) -> Self
+        ensures { result ≡ compared self.entry (row_numbers row.now) }
+    {
+        row.iter()
+            .copied()
+            .fold(self, |so_far, f| f.expected_by(so_far))
+    }
+
+    // Findings behind their count.
+    #[tactic(auto, using(std::proofs::lemmas::List::take_min))]
+    fn expect_findings(self, found: Findings) -> Self
+        ensures { result ≡ compared self.entry (found_numbers found) }
+    {
+        let held = found.count.min(found.items.len());
+        self.expect(found.count as u64)
+            .expect_row(&found.items[..held])
+    }
+
+    // The answers of an image, each against the record's next numbers.
+    fn check_identity(self, image: &[u8]) -> Self
+        ensures { result ≡ compared self.entry (said_numbers identity_record (identity_of image.now)) }
+    {
+        self.expect_answer(decoders::identity::decode_identity_and_base(image))
+    }
+
+    fn check_timings(self, image: &[u8]) -> Self
+        ensures { result ≡ compared self.entry (said_numbers timing_record (timings_of image.now)) }
+    {
+        self.expect_answer(decoders::timing::decode_timings(image))
+    }
+
+    fn check_rate(self, image: &[u8]) -> Self
+        ensures { result ≡ compared self.entry (rate_numbers (timings_of image.now)) }
+    {
+        match decoders::timing::decode_timings(image) {
+            Ok(t) => self.expect(1).expect(u64::from(t.base_data_rate_mt_s())),
+            Err(_) => self.expect(0),
+        }
+    }
+
+    fn check_cas(self, image: &[u8]) -> Self {
+        match decoders::timing::decode_timings(image) {
+            Ok(t) => self.expect_cas(t.supported_cas_latencies),
+            Err(_) => self.expect(0),
+        }
+    }
+
+    #[tactic(auto, using(crate::proofs::Rows::numbers_held))]
+    fn check_findings(self, image: &[u8]) -> Self
+        ensures { result ≡ compared self.entry (list_numbers (findings_of Second image.now)) }
+    {
+        self.expect_findings(rules::lint_image(image, Edition::Second).findings)
+    }
+
+    fn check_rated(self, image: &[u8]) -> Self {
+        match profile_of(image) {
+            Some(r) => self
+                .expect(1)
+                .expect_findings(rules::rated_findings(r, Edition::Second)),
+            None => self.expect(0),
+        }
+    }
+
+    // Goes on where every number so far is ours; else the answer that was compared last differs.
+    fn same(self, item: Item) -> Result<Self, Fault> {
+        if self.cursor.same {
+            Ok(self)
+        } else {
+            Err(Fault::Differs(item))
+        }
+    }
 }
 
+// A severity's number in the list.
 fn rank(s: Severity) -> u32
     ensures { result ≡ rank_of s }
 {
@@ -314,327 +408,164 @@ fn rank(s: Severity) -> u32
     }
 }
 
-fn expect_finding(record: &[u8], c: Cursor, f: Finding) -> Cursor
-    ensures { result ≡ held_all (view «record».now) c (finding_record f) }
-{
-    let severity = f.severity;
-    let numbers = [
-        f.code as u32,
-        rank(severity),
-        f.sub as u32,
-        f.first,
-        f.second,
-        f.third,
-    ];
-    expect_all(record, c, &numbers)
+fn profile_of(image: &[u8]) -> Option<RatedTimings> {
+    let profile = image.get(PROFILE_START..PROFILE_END)?;
+    profile.starts_with(PROFILE_LETTERS).then(|| RatedTimings {
+        cycle_time: Picoseconds(le32(profile, 8)),
+        taa: Picoseconds(le32(profile, 12)),
+        trcd: Picoseconds(le32(profile, 16)),
+        trp: Picoseconds(le32(profile, 20)),
+        tras: Picoseconds(le32(profile, 24)),
+        data_rate_mt_s: le32(profile, 28),
+    })
 }
 
-fn expect_row(record: &[u8], c: Cursor, found: Findings) -> Cursor
-    requires { found.count ≤ 15 }
-    ensures { result ≡ held_all (view «record».now) c (row_numbers (take found.count found.items)) }
-{
-    let n = found.count;
-    let mut next = c;
-    let mut i: usize = 0;
-    while i < n {
-        next = expect_finding(record, next, found.items[i]);
-        i += 1;
+// Every answer of an image, up to the first that differs, against a record's numbers from a place on.
+fn judge(bytes: &[u8], at: usize, image: &[u8]) -> Result<(), Fault> {
+    let end = Comparison {
+        bytes,
+        cursor: Cursor { at, same: true },
     }
-    next
-}
-
-// Findings behind their count, of which there are never more than fifteen.
-fn expect_findings(record: &[u8], c: Cursor, found: Findings) -> Cursor
-    ensures { found.count ≤ 15 → result ≡ held_all (view «record».now) c (found_numbers found) }
-{
-    let counted = expect(record, c, found.count as u64);
-    if found.count < 16 {
-        return expect_row(record, counted, found);
-    }
-    counted
-}
-
-fn profile_of(image: &[u8]) -> Profile {
-    if image.len() < 672 {
-        return Profile::Absent;
-    }
-    if image[640..648].starts_with(b"ROOSTCRD") {
-        return Profile::Rated(RatedTimings {
-            cycle_time: Picoseconds(le32(image, 648)),
-            taa: Picoseconds(le32(image, 652)),
-            trcd: Picoseconds(le32(image, 656)),
-            trp: Picoseconds(le32(image, 660)),
-            tras: Picoseconds(le32(image, 664)),
-            data_rate_mt_s: le32(image, 668),
-        });
-    }
-    Profile::Absent
-}
-
-// The answers of an image, each against the record's numbers from a place on.
-fn check_identity(record: &[u8], c: Cursor, image: &[u8]) -> Cursor
-    ensures { result ≡ held_all (view «record».now) c (said_numbers identity_record (identity_of image.now)) }
-{
-    match decoders::identity::decode_identity_and_base(image) {
-        IdentityAnswer::Decoded(d) => expect_identity(record, c, d),
-        IdentityAnswer::Refused(why) => expect_refusal(record, c, why),
-    }
-}
-
-fn check_timings(record: &[u8], c: Cursor, image: &[u8]) -> Cursor
-    ensures { result ≡ held_all (view «record».now) c (said_numbers timing_record (timings_of image.now)) }
-{
-    match decoders::timing::decode_timings(image) {
-        TimingsAnswer::Decoded(t) => expect_timings(record, c, t),
-        TimingsAnswer::Refused(why) => expect_refusal(record, c, why),
-    }
-}
-
-fn check_rate(record: &[u8], c: Cursor, image: &[u8]) -> Cursor
-    ensures { result ≡ held_all (view «record».now) c (rate_numbers (timings_of image.now)) }
-{
-    match decoders::timing::decode_timings(image) {
-        TimingsAnswer::Decoded(t) => {
-            let one = expect(record, c, 1);
-            expect(record, one, from32(t.base_data_rate_mt_s()))
-        }
-        TimingsAnswer::Refused(_) => expect(record, c, 0),
-    }
-}
-
-fn check_cas(record: &[u8], c: Cursor, image: &[u8]) -> Cursor {
-    match decoders::timing::decode_timings(image) {
-        TimingsAnswer::Decoded(t) => {
-            let set = t.supported_cas_latencies;
-            expect_cas(record, c, set)
-        }
-        TimingsAnswer::Refused(_) => expect(record, c, 0),
-    }
-}
-
-fn check_findings(record: &[u8], c: Cursor, image: &[u8]) -> Cursor
-    ensures { result ≡ held_all (view «record».now) c (list_numbers (findings_of Second image.now)) }
-{
-    let answer = rules::lint_image(image, Edition::Second);
-    let found = answer.findings;
-    expect_findings(record, c, found)
-}
-
-fn check_rated(record: &[u8], c: Cursor, image: &[u8]) -> Cursor {
-    match profile_of(image) {
-        Profile::Absent => expect(record, c, 0),
-        Profile::Rated(r) => {
-            let one = expect(record, c, 1);
-            expect_findings(record, one, rules::rated_findings(r, Edition::Second))
-        }
-    }
-}
-
-// Every answer of an image, up to the first that differs.
-fn judge(record: &[u8], at: usize, image: &[u8]) -> Verdict {
-    let start = Cursor { at, same: true };
-    let a = check_identity(record, start, image);
-    if a.same {
-        let b = check_timings(record, a, image);
-        if b.same {
-            return judge_rest(record, b, image);
-        }
-        return Verdict::Differs(2);
-    }
-    Verdict::Differs(1)
-}
-
-fn judge_rest(record: &[u8], c: Cursor, image: &[u8]) -> Verdict {
-    let a = check_rate(record, c, image);
-    if a.same {
-        let b = check_cas(record, a, image);
-        if b.same {
-            return judge_findings(record, b, image);
-        }
-        return Verdict::Differs(4);
-    }
-    Verdict::Differs(3)
-}
-
-fn judge_findings(record: &[u8], c: Cursor, image: &[u8]) -> Verdict {
-    let a = check_findings(record, c, image);
-    if a.same {
-        let b = check_rated(record, a, image);
-        if b.same {
-            if b.at == record.len() {
-                return Verdict::Same;
-            }
-            return Verdict::Malformed;
-        }
-        return Verdict::Differs(6);
-    }
-    Verdict::Differs(5)
-}
-
-fn name(rt: &impl Print, item: u8) -> io::Result<()> {
-    match item {
-        1 => text(rt, b"identity"),
-        2 => text(rt, b"timings"),
-        3 => text(rt, b"data rate"),
-        4 => text(rt, b"CAS latencies"),
-        5 => text(rt, b"findings"),
-        _ => text(rt, b"rated findings"),
-    }
-}
-
-// Tells a difference, unless enough were told, and counts it.
-fn differs(rt: &impl Print, state: State, item: u8) -> io::Result<State> {
-    if state.differences < TOLD {
-        text(rt, b"image ")?;
-        decimal(rt, state.images)?;
-        text(rt, b" differs: ")?;
-        name(rt, item)?;
-        text(rt, b"\n")?;
-    }
-    let mut later = state;
-    later.differences = more(state.differences);
-    Ok(later)
-}
-
-fn spoiled(state: State) -> State {
-    let mut later = state;
-    later.malformed = true;
-    later
-}
-
-// The last base image with a record's changes.
-fn changed(base: [u8; 2048], record: &[u8], changes: usize) -> [u8; 2048]
-    requires { changes < 256 }
-{
-    let mut image = base;
-    let mut i: usize = 0;
-    while i < changes {
-        let at = 4 + 3 * i;
-        let offset = le16(record, at);
-        if offset < 2048 {
-            image[offset] = reading::byte_or_zero(record, at + 2);
-        }
-        i += 1;
-    }
-    image
-}
-
-// An image record: its length at 1, the count of changes at 3.
-fn image(rt: &impl Print, state: State, record: &[u8]) -> io::Result<State> {
-    let length = le16(record, 1);
-    let changes = wide(reading::byte_or_zero(record, 3));
-    if 2048 < length {
-        return Ok(spoiled(state));
-    }
-    let base = state.base;
-    let bytes = changed(base, record, changes);
-    match judge(record, 4 + 3 * changes, reading::slice(&bytes, 0, length)) {
-        Verdict::Same => Ok(state),
-        Verdict::Differs(item) => differs(rt, state, item),
-        Verdict::Malformed => Ok(spoiled(state)),
+    .check_identity(image)
+    .same(Item::Identity)?
+    .check_timings(image)
+    .same(Item::Timings)?
+    .check_rate(image)
+    .same(Item::DataRate)?
+    .check_cas(image)
+    .same(Item::CasLatencies)?
+    .check_findings(image)
+    .same(Item::Findings)?
+    .check_rated(image)
+    .same(Item::RatedFindings)?;
+    if end.cursor.at == bytes.len() {
+        Ok(())
+    } else {
+        Err(Fault::Malformed)
     }
 }
 
 // A base record: its bytes from 1 on.
-fn base_of(record: &[u8]) -> [u8; 2048] {
-    let mut base = [0u8; 2048];
-    let mut i: usize = 0;
-    while i < 2048 {
-        base[i] = reading::byte_or_zero(record, i + 1);
-        i += 1;
-    }
-    base
+fn base_of(bytes: &[u8]) -> [u8; IMAGE_MAX] {
+    std::array::from_fn(|i| reading::byte_or_zero(bytes, i + 1))
 }
 
-fn act(rt: &impl Print, state: State, record: &[u8]) -> io::Result<State> {
-    let mut later = state;
-    match reading::byte_or_zero(record, 0) {
-        0 => {
-            let base = base_of(record);
-            later.base = base;
-            Ok(later)
+impl State {
+    fn new() -> Self {
+        State {
+            base: [0; IMAGE_MAX],
+            images: 0,
+            differences: 0,
+            listed: 0,
         }
-        1 => {
-            later.images = more(state.images);
-            image(rt, later, record)
+    }
+
+    // The last base image with a record's changes: their count stands at 3, and they behind it.
+    fn changed(&self, bytes: &[u8]) -> [u8; IMAGE_MAX] {
+        let mut image = self.base;
+        let count = usize::from(reading::byte_or_zero(bytes, 3));
+        let (changes, _) = bytes.get(4..).unwrap_or(&[]).as_chunks::<3>();
+        for &[low, high, value] in changes.iter().take(count) {
+            let offset = usize::from(u16::from_le_bytes([low, high]));
+            if let Some(byte) = image.get_mut(offset) {
+                *byte = value;
+            }
         }
-        2 => {
-            later.images = more(state.images);
-            later.listed = more(state.listed);
-            image(rt, later, record)
+        image
+    }
+
+    // Tells a difference, unless enough were told, and counts it.
+    fn differs(&mut self, rt: &impl Print, item: Item) -> io::Result<()> {
+        if self.differences < TOLD {
+            println!(rt; "image {} differs: {item}", self.images)?;
         }
-        _ => Ok(spoiled(state)),
+        self.differences = self.differences.saturating_add(1);
+        Ok(())
+    }
+
+    // An image record: its length at 1, its answers behind the changes.
+    fn image(&mut self, rt: &impl Print, bytes: &[u8]) -> Result<(), Stop> {
+        self.images = self.images.saturating_add(1);
+        let changes = usize::from(reading::byte_or_zero(bytes, 3));
+        let changed = self.changed(bytes);
+        let Some(image) = changed.get(..usize::from(le16(bytes, 1))) else {
+            return Err(Stop::Malformed);
+        };
+        match judge(bytes, 4 + 3 * changes, image) {
+            Ok(()) => Ok(()),
+            Err(Fault::Differs(item)) => Ok(self.differs(rt, item)?),
+            Err(Fault::Malformed) => Err(Stop::Malformed),
+        }
+    }
+
+    // Acts on a record of any kind.
+    fn act(&mut self, rt: &impl Print, bytes: &[u8]) -> Result<(), Stop> {
+        match reading::byte_or_zero(bytes, 0) {
+            0 => {
+                self.base = base_of(bytes);
+                Ok(())
+            }
+            1 => self.image(rt, bytes),
+            2 => {
+                self.listed = self.listed.saturating_add(1);
+                self.image(rt, bytes)
+            }
+            _ => Err(Stop::Malformed),
+        }
+    }
+
+    // Reads the next record and acts on it.
+    fn step(&mut self, rt: &impl Print, input: &mut impl Read) -> Result<(), Stop> {
+        let mut size = [0u8; 2];
+        need(input, &mut size)?;
+        let mut buffer = [0u8; RECORD_MAX];
+        let Some(bytes) = buffer.get_mut(..usize::from(u16::from_le_bytes(size))) else {
+            return Err(Stop::Malformed);
+        };
+        need(input, bytes)?;
+        self.act(rt, bytes)
+    }
+
+    // The letters, the count of records, the records, and nothing behind them.
+    fn replay(&mut self, rt: &impl Print, input: &mut impl Read) -> Result<(), Stop> {
+        let mut head = [0u8; 12];
+        need(input, &mut head)?;
+        if !head.starts_with(LIST_LETTERS) {
+            return Err(Stop::Malformed);
+        }
+        for _ in 0..le32(&head, 8) {
+            self.step(rt, input)?;
+        }
+        let mut one = [0u8; 1];
+        if fill(input, &mut one)? {
+            return Err(Stop::Malformed);
+        }
+        Ok(())
     }
 }
 
-// Fills the front of a buffer from the input, if there is so much of both.
-fn fill(input: &mut impl Read, buffer: &mut [u8], n: usize) -> io::Result<bool> {
-    if buffer.len() < n {
-        return Ok(false);
-    }
-    match input.read_exact(&mut buffer[..n]) {
+// Fills a buffer from the input: whether there was so much of it.
+fn fill(input: &mut impl Read, buffer: &mut [u8]) -> io::Result<bool> {
+    match input.read_exact(buffer) {
         Ok(()) => Ok(true),
         Err(e) if e.kind() == ErrorKind::UnexpectedEof => Ok(false),
         Err(e) => Err(e),
     }
 }
 
-// Reads the next record and acts on it.
-fn step(rt: &impl Print, input: &mut impl Read, state: State) -> io::Result<State> {
-    let mut size = [0u8; 2];
-    if fill(input, &mut size, 2)? {
-        let n = le16(&size, 0);
-        let mut buffer = [0u8; 4096];
-        if fill(input, &mut buffer, n)? {
-            return act(rt, state, reading::slice(&buffer, 0, n));
-        }
-    }
-    Ok(spoiled(state))
-}
-
-fn replay(rt: &impl Print, input: &mut impl Read, records: u32) -> io::Result<State> {
-    let base = [0u8; 2048];
-    let mut state = State {
-        base,
-        images: 0,
-        differences: 0,
-        listed: 0,
-        malformed: false,
-    };
-    let mut i: u32 = 0;
-    while i < records {
-        if state.malformed {
-            return Ok(state);
-        }
-        state = step(rt, input, state)?;
-        i += 1;
-    }
-    Ok(state)
-}
-
-// Whether a byte is left.
-fn left(input: &mut impl Read) -> io::Result<bool> {
-    let mut one = [0u8; 1];
-    fill(input, &mut one, 1)
-}
-
-fn conclude(rt: &impl Print, state: State) -> io::Result<()> {
-    if state.malformed {
-        text(rt, b"MALFORMED LIST, replayed only ")?;
+// Fills it in a list that has so much.
+fn need(input: &mut impl Read, buffer: &mut [u8]) -> Result<(), Stop> {
+    if fill(input, buffer)? {
+        Ok(())
     } else {
-        text(rt, b"replayed ")?;
+        Err(Stop::Malformed)
     }
-    decimal(rt, state.images)?;
-    text(rt, b" images: ")?;
-    decimal(rt, state.differences)?;
-    text(rt, b" differences, ")?;
-    decimal(rt, state.listed)?;
-    text(rt, b" listed\n")
 }
 
 // A sound module of 236 bytes: eight bits wide on a bus of 32, CL 40, with these row times and clocks.
-fn module(tck: u16, taa: u16, trcd: u16, trp: u16, tras: u16, trc: u16) -> [u8; 236] {
-    let mut image = [0u8; 236];
+// Kept: its own image, so that a program's output goes by what stands in it alone.
+fn module(tck: u16, taa: u16, trcd: u16, trp: u16, tras: u16, trc: u16) -> [u8; MODULE_BYTES] {
+    let mut image = [0u8; MODULE_BYTES];
     image[0] = 0x30;
     image[2] = 0x12;
     image[3] = 0x02;
@@ -642,36 +573,20 @@ fn module(tck: u16, taa: u16, trcd: u16, trp: u16, tras: u16, trc: u16) -> [u8; 
     image[6] = 0x20;
     image[25] = 0x04;
     image[235] = 0x22;
-    image = timed(image, 20, tck);
-    image = timed(image, 30, taa);
-    image = timed(image, 32, trcd);
-    image = timed(image, 34, trp);
-    image = timed(image, 36, tras);
-    timed(image, 38, trc)
-}
-
-// The image with a 16-bit time, low byte first.
-fn timed(image: [u8; 236], at: usize, time: u16) -> [u8; 236]
-    requires { at < 235 }
-{
-    let mut later = image;
-    later[at] = (time % 256) as u8;
-    later[at + 1] = (time / 256) as u8;
-    later
+    image[20..22].copy_from_slice(&tck.to_le_bytes());
+    image[30..32].copy_from_slice(&taa.to_le_bytes());
+    image[32..34].copy_from_slice(&trcd.to_le_bytes());
+    image[34..36].copy_from_slice(&trp.to_le_bytes());
+    image[36..38].copy_from_slice(&tras.to_le_bytes());
+    image[38..40].copy_from_slice(&trc.to_le_bytes());
+    image
 }
 
 // The codes of an image's findings, in order.
 fn codes(rt: &impl Print, image: &[u8]) -> io::Result<()> {
-    let answer = rules::lint_image(image, Edition::Second);
-    let found = answer.findings;
-    let items = found.items;
-    let mut i: usize = 0;
-    while i < 15 {
-        if i < found.count {
-            text(rt, b" ")?;
-            decimal(rt, wide(items[i].code))?;
-        }
-        i += 1;
+    let found = rules::lint_image(image, Edition::Second).findings;
+    for one in found.items.iter().take(found.count) {
+        printing::number(rt, usize::from(one.code))?;
     }
     text(rt, b"\n")
 }
@@ -697,16 +612,14 @@ fn bench(rt: &impl Print) -> io::Result<()> {
 
 fn main(rt: HostRuntime) -> io::Result<()> {
     bench(&rt)?;
-    let mut input = rt.reader();
-    let mut head = [0u8; 12];
-    if fill(&mut input, &mut head, 12)? {
-        if head[0..8].starts_with(b"ROOSTLST") {
-            let state = replay(&rt, &mut input, le32(&head, 8))?;
-            if left(&mut input)? {
-                return conclude(&rt, spoiled(state));
-            }
-            return conclude(&rt, state);
-        }
-    }
-    conclude(&rt, spoiled(replay(&rt, &mut input, 0)?))
+    let mut state = State::new();
+    let told = match state.replay(&rt, &mut rt.reader()) {
+        Ok(()) => "replayed",
+        Err(Stop::Malformed) => "MALFORMED LIST, replayed only",
+        Err(Stop::Failed(e)) => return Err(e),
+    };
+    println!(rt;
+        "{told} {} images: {} differences, {} listed",
+        state.images, state.differences, state.listed
+    )
 }

@@ -1,7 +1,8 @@
 -- What stands behind a report is not looked at, be it accepted or refused: bytes that are as many as their first two announce are read from
 -- those alone. Refusal 9 is for the others, and for them alone. Assumes nothing.
+use Rattle.std.specs.Prelude.{Ok, Err}
 use Prim.Native.Nat.{ℕ, zero, suc, ◌+◌, ◌*◌, ◌<◌, ◌≤◌}
-use mathlib.Core.Path.{◌≡◌, refl, ap, ap₂, sym}
+use mathlib.Core.Path.{◌≡◌, refl, ap₂, sym}
 use mathlib.Core.List.{List, ◌∷◌, ◌++◌}
 use mathlib.Core.Bool.{Bool, true, false}
 use native.Mathlib.Omega.{arith}
@@ -10,40 +11,19 @@ use lib.Dec.{eqb, ltb}
 use lib.ListN.{length, get_or, drop, take, length-append, get_or-append}
 use lib.Seq.{get_or-drop, get_or-take, length-take-le}
 use Rattle.reading.specs.Pick.{pick}
-use Rattle.reading.specs.Said.{Said, gives, refuses, refused}
+use Rattle.reading.specs.declared.Refusal.TheVariants.{ReportCut, ReportMalformed, ReportVersion}
+use Rattle.reading.specs.Refusal.{Answer}
 use Rattle.reading.proofs.Picked.{by-test, either}
 use Rattle.findings.specs.declared.Finding.{Finding}
 use Rattle.rules.specs.Table.{all_in}
-use Rattle.report.specs.Form.{finding_size, head_size, form_version, rest_of, finding_in, findings_in}
+use Rattle.report.specs.Form.{finding_size, head_size, form_version, rest_of, findings_in}
+use Rattle.report.proofs.Turns.{Agree, finding-agrees}
 use Rattle.report.specs.Read.{Content, length_in, content_in, content_of, reading_of, read_of, read_after}
 
 -- as many bytes as the first two announce
 pub record Whole (s : List ℕ) : Type 0 where
   pub told : 2 ≤ length s
   pub all : 2 + length_in s ≤ length s
-
--- the same bytes in the first k places
-abbrev pub Agree : (k : ℕ) → (s t : List ℕ) → Type 0
-Agree k s t = (i : ℕ) → i < k → get_or s i 0 ≡ get_or t i 0
-
-finding-agrees : (s t : List ℕ) → Agree finding_size s t → finding_in s ≡ finding_in t
-finding-agrees s t a =
-    rw (
-      a 0 (omega arith),
-      a 1 (omega arith),
-      a 2 (omega arith),
-      a 3 (omega arith),
-      a 4 (omega arith),
-      a 5 (omega arith),
-      a 6 (omega arith),
-      a 7 (omega arith),
-      a 8 (omega arith),
-      a 9 (omega arith),
-      a 10 (omega arith),
-      a 11 (omega arith),
-      a 12 (omega arith),
-      a 13 (omega arith),
-    )
 
 agree-drop : (m k : ℕ) (s t : List ℕ) → Agree (m + k) s t → Agree k (drop m s) (drop m t)
 agree-drop m k s t a i h = rw (get_or-drop m s i 0, get_or-drop m t i 0) (a (m + i) (omega arith))
@@ -65,13 +45,13 @@ ends false p q = q refl
 
 module _ (s t : List ℕ) (w : Whole s) (h : 2 + length_in s ≤ length t) (a : Agree (2 + length_in s) s t) where
   -- from the flags on, which three bytes behind the length reach
-  abbrev fromFlags : List ℕ → Said Content
+  abbrev fromFlags : List ℕ → Answer Content
   fromFlags u =
-      pick (ltb 3 (get_or u 3 0)) (refused 11 0 0)
-      (pick (ltb 15 (get_or u 4 0)) (refused 11 0 0)
+      pick (ltb 3 (get_or u 3 0)) (Err ReportMalformed)
+      (pick (ltb 15 (get_or u 4 0)) (Err ReportMalformed)
       (pick (eqb (length_in s) (rest_of (get_or u 4 0)))
-      (pick (all_in (findings_in (drop head_size u) (get_or u 4 0))) (gives (content_in u)) (refused 11 0 0))
-      (refused 11 0 0)))
+      (pick (all_in (findings_in (drop head_size u) (get_or u 4 0))) (Ok (content_in u)) (Err ReportMalformed))
+      (Err ReportMalformed)))
 
   body-agrees : 3 ≤ length_in s → fromFlags s ≡ fromFlags t
   body-agrees k =
@@ -94,19 +74,15 @@ module _ (s t : List ℕ) (w : Whole s) (h : 2 + length_in s ≤ length t) (a : 
       (ends (eqb (get_or t 2 0) form_version) (λ _. ends (ltb (length_in s) 3) (λ _. refl) (λ three. body-agrees (ltb-false (length_in s) 3 three))) (λ _. refl))))
 
 -- ---- refusal 9
-abbrev number_of : Said Content → ℕ
-number_of (gives c) = 0
-number_of (refuses t) = t.number
+abbrev NotCut : Answer Content → Type 0
+NotCut x = x ≡ Err ReportCut → ⊥
 
-abbrev NotCut : Said Content → Type 0
-NotCut x = number_of x ≡ 9 → ⊥
-
-not-cut : (s : List ℕ) → Whole s → NotCut (content_of s)
+pub whole-not-cut : (s : List ℕ) → Whole s → content_of s ≡ Err ReportCut → ⊥
 unfolding content_of
-not-cut s w =
-    let value : NotCut (gives (content_in s)) = λ z. omega arith in
-    let ten : NotCut (refused 10 0 0) = λ z. omega arith in
-    let eleven : NotCut (refused 11 0 0) = λ z. omega arith in
+whole-not-cut s w =
+    let value : NotCut (Ok (content_in s)) = λ z. cc in
+    let ten : NotCut (Err ReportVersion) = λ z. cc in
+    let eleven : NotCut (Err ReportMalformed) = λ z. cc in
     rw (le-ltb (length s) 2 w.told, le-ltb (length s) (2 + length_in s) w.all)
     (either NotCut (eqb (length_in s) 0) eleven
     (either NotCut (eqb (get_or s 2 0) form_version)
@@ -118,10 +94,7 @@ not-cut s w =
     eleven))))
     ten))
 
-pub whole-not-cut : (s : List ℕ) → Whole s → content_of s ≡ refused 9 0 0 → ⊥
-whole-not-cut s w e = not-cut s w (ap number_of e)
-
-pub not-cut-whole : (s : List ℕ) → (content_of s ≡ refused 9 0 0 → ⊥) → Whole s
+pub not-cut-whole : (s : List ℕ) → (content_of s ≡ Err ReportCut → ⊥) → Whole s
 unfolding content_of
 not-cut-whole s h =
     by-test (ltb (length s) 2)

@@ -1,5 +1,6 @@
 -- What linting finds can always be reported: at most fifteen findings, all of the table's, with flags of two bits. So want of room is the
 -- only refusal. Assumes nothing.
+use Rattle.std.specs.Prelude.{Ok, Err}
 use Prim.Native.Nat.{ℕ, ◌+◌, ◌≤◌}
 use mathlib.Core.Path.{◌≡◌, ◌∙◌}
 use mathlib.Core.List.{List}
@@ -7,7 +8,7 @@ use native.Mathlib.Omega.{arith}
 use borrow.Author.Tests.{le-ltb}
 use lib.ListN.{length, take}
 use Rattle.reading.specs.Bytes.{AllBytes}
-use Rattle.reading.specs.Said.{Said, gives, refuses}
+use Rattle.reading.specs.Refusal.{Answer}
 use Rattle.findings.specs.declared.Finding.{Finding}
 use Rattle.findings.specs.Hold.{holding}
 use Rattle.findings.proofs.Laws.{list_held}
@@ -21,17 +22,21 @@ use Rattle.report.specs.Form.{rest_of}
 use Rattle.report.specs.Read.{content_of}
 use Rattle.report.specs.Write.{fitted, write_of, found_of, written_over, flags_for, lint_report_of, lint_report_after}
 use Rattle.report.proofs.Trip.{Reportable, written-reads}
-use Rattle.report.proofs.Loaded.{found-held}
+
+-- a list by value is written as it is
+found-held : (flags : ℕ) (l : List Finding) (room : ℕ) → length l ≤ 15 → found_of flags (holding l) room ≡ write_of flags l room
+unfolding found_of holding
+found-held flags l room h = rw (le-ltb 15 (length l) h, list_held l)
 
 pub fits : (flags : ℕ) (l : List Finding) (room : ℕ) → Reportable flags l → write_of flags l room ≡ fitted (length l) room
 unfolding write_of
 fits flags l room ok = rw (le-ltb 15 (length l) ok.few, le-ltb 3 flags ok.flagged, ok.listed)
 
-pub flags-few : {A B : Type 0} (a : Said A) (b : Said B) → flags_for a b ≤ 3
-flags-few (gives a) (gives b) = omega arith
-flags-few (gives a) (refuses t) = omega arith
-flags-few (refuses t) (gives b) = omega arith
-flags-few (refuses t) (refuses u) = omega arith
+pub flags-few : {A B : Type 0} (a : Answer A) (b : Answer B) → flags_for a b ≤ 3
+flags-few (Ok a) (Ok b) = omega arith
+flags-few (Ok a) (Err t) = omega arith
+flags-few (Err t) (Ok b) = omega arith
+flags-few (Err t) (Err u) = omega arith
 
 module _ (e : Edition) (s : List ℕ) (bytes : AllBytes s) where
   pub lint-fits : (flags room : ℕ) → flags ≤ 3 → found_of flags (holding (findings_of e s)) room ≡ fitted (length (findings_of e s)) room
@@ -51,11 +56,11 @@ module _ (e : Edition) (s : List ℕ) (bytes : AllBytes s) where
 
   -- in a buffer with room, what `lint_report` leaves reads back: the flags and findings of the image
   pub lint-reads : (out : List ℕ) → rest_of (length (findings_of e s)) + 2 ≤ length out
-      → content_of (lint_report_after e s out) ≡ gives (record { flags = flags_for (identity_of s) (timings_of s); findings = findings_of e s })
+      → content_of (lint_report_after e s out) ≡ Ok (record { flags = flags_for (identity_of s) (timings_of s); findings = findings_of e s })
   unfolding lint_report_after lint_report_of
   lint-reads out h =
       let flags = flags_for (identity_of s) (timings_of s) in
       let l = findings_of e s in
       let ok : Reportable flags l = record { flagged = flags-few (identity_of s) (timings_of s); few = at-most-fifteen e s; listed = inside e s bytes } in
-      let room : fitted (length l) (length out) ≡ gives (rest_of (length l) + 2) = rw (le-ltb (length out) (rest_of (length l) + 2) h) in
+      let room : fitted (length l) (length out) ≡ Ok (rest_of (length l) + 2) = rw (le-ltb (length out) (rest_of (length l) + 2) h) in
       rw (← fits flags l (length out) ok) (written-reads flags l (length out) out (fits flags l (length out) ok ∙ room))

@@ -3,6 +3,5 @@ pub mod Turns
 pub mod Stated
 pub mod Trip
 pub mod Behind
-pub mod Loaded
 pub mod Fits
 pub mod Once

@@ -1,5 +1,6 @@
 -- Reading gives back what was written, whatever stands behind it; and what is read as a report is the report of what was read. A finding's
 -- bytes say all of it but the severity, which its code gives. Assumes nothing.
+use Rattle.std.specs.Prelude.{Ok, Err}
 use Prim.Native.Nat.{ℕ, zero, suc, ◌+◌, ◌*◌, ◌/◌, ◌%◌, ◌<◌, ◌≤◌}
 use mathlib.Core.Path.{◌≡◌, refl, ap, ap₂, sym, ◌∙◌, subst}
 use mathlib.Core.List.{List, [], ◌∷◌, ◌++◌, append_assoc}
@@ -12,14 +13,15 @@ use lib.ListN.{length, get_or, drop, take, length-append, length-drop, take-appe
 use lib.Seq.{get_or-drop, drop-drop}
 use Rattle.reading.specs.Bytes.{AllBytes}
 use Rattle.reading.specs.Pick.{pick}
-use Rattle.reading.specs.Said.{Said, gives, refuses, Told}
+use Rattle.reading.specs.Refusal.{Answer}
+use Rattle.reading.specs.declared.Refusal.{Refusal}
 use Rattle.reading.proofs.Picked.{both}
 use Rattle.findings.specs.declared.Finding.{Finding}
 use Rattle.findings.specs.Same.{same_severity}
 use Rattle.findings.proofs.Same.{same-severity-is}
 use Rattle.rules.specs.Table.{in_table, all_in}
 use Rattle.report.specs.Form.{finding_size, head_size, form_version, finding_bytes, body_of, head_of, report_of, rest_of, severity_for, finding_in, findings_in}
-use Rattle.report.specs.Read.{Content, length_in, content_in, content_of}
+use Rattle.report.specs.Read.{Content, length_in, content_in, content_of, contained}
 use Rattle.report.specs.Write.{write_of, written_over}
 use Rattle.report.proofs.Form.{length-body, length-report}
 use Rattle.report.proofs.Turns.{length-findings}
@@ -48,29 +50,29 @@ findings-back (f ∷ l) r e =
     let p = both (in_table f) (all_in l) e in
     ap₂ ◌∷◌ (finding-back f (body_of l ++ r) p.0) (findings-back l r p.1)
 
-pub read-report : (flags : ℕ) (l : List Finding) (r : List ℕ) → Reportable flags l → content_of (report_of flags l ++ r) ≡ gives (record { flags = flags; findings = l })
+pub read-report : (flags : ℕ) (l : List Finding) (r : List ℕ) → Reportable flags l → content_of (report_of flags l ++ r) ≡ Ok (record { flags = flags; findings = l })
 read-report flags l r ok =
     let s = report_of flags l ++ r in
     let w : length_in s ≡ rest_of (length l) = omega arith in
     let n : length s ≡ head_size + (finding_size * length l + length r) = omega (arith, length-append (body_of l) r, length-body l) in
-    passed s {rest = rest_of (length l)} (record { told = sym w; whole = omega arith; some = omega arith; version = refl }) ok.flagged ok.few w
+    passed s (omega arith) refl ok.flagged ok.few w
     ∙ rw (findings-back l r ok.listed, ok.listed)
 
 -- ---- tests that end in a value have been passed
 module _ {A : Type 0} where
-  no_value : {P : Type 0} {why : Told} {a : A} → refuses why ≡ gives a → P
-  no_value e = let z : ◌≡◌ {A = ℕ} 0 1 = cc in absurd (omega arith)
+  no_value : {P : Type 0} {why : Refusal} {a : A} → Err why ≡ Ok a → P
+  no_value e = cc
 
-  unless : (t : Bool) (why : Told) (x : Said A) {a : A} → pick t (refuses why) x ≡ gives a → (t ≡ false) × (x ≡ gives a)
+  unless : (t : Bool) (why : Refusal) (x : Answer A) {a : A} → pick t (Err why) x ≡ Ok a → (t ≡ false) × (x ≡ Ok a)
   unless true why x e = no_value e
   unless false why x e = (refl, e)
 
-  provided : (t : Bool) (x : Said A) (why : Told) {a : A} → pick t x (refuses why) ≡ gives a → (t ≡ true) × (x ≡ gives a)
+  provided : (t : Bool) (x : Answer A) (why : Refusal) {a : A} → pick t x (Err why) ≡ Ok a → (t ≡ true) × (x ≡ Ok a)
   provided true x why e = (refl, e)
   provided false x why e = no_value e
 
 -- what gives a size was reportable
-pub written-form : (flags : ℕ) (l : List Finding) (room : ℕ) {n : ℕ} → write_of flags l room ≡ gives n → Reportable flags l
+pub written-form : (flags : ℕ) (l : List Finding) (room : ℕ) {n : ℕ} → write_of flags l room ≡ Ok n → Reportable flags l
 unfolding write_of
 written-form flags l room e =
     let t1 = unless (ltb 15 (length l)) _ _ e in
@@ -79,8 +81,8 @@ written-form flags l room e =
     record { flagged = ltb-false 3 flags t2.0; few = ltb-false 15 (length l) t1.0; listed = t3.0 }
 
 -- in whatever stood in the buffer before
-pub written-reads : (flags : ℕ) (l : List Finding) (room : ℕ) {n : ℕ} (out : List ℕ) → write_of flags l room ≡ gives n
-    → content_of (written_over (write_of flags l room) flags l out) ≡ gives (record { flags = flags; findings = l })
+pub written-reads : (flags : ℕ) (l : List Finding) (room : ℕ) {n : ℕ} (out : List ℕ) → write_of flags l room ≡ Ok n
+    → content_of (written_over (write_of flags l room) flags l out) ≡ Ok (record { flags = flags; findings = l })
 unfolding written_over
 written-reads flags l room out e = rw e (read-report flags l (drop (length (report_of flags l)) out) (written-form flags l room e))
 
@@ -92,7 +94,7 @@ record Passed (s : List ℕ) : Type 0 where
   pub form : Reportable (get_or s 3 0) (findings_in (drop head_size s) (get_or s 4 0))
 
 -- the tests of `content_of` that a report has passed
-read-passed : (s : List ℕ) {c : Content} → content_of s ≡ gives c → Passed s × (content_in s ≡ c)
+read-passed : (s : List ℕ) {c : Content} → content_of s ≡ Ok c → Passed s × (content_in s ≡ c)
 unfolding content_of
 read-passed s e =
     let t1 = unless (ltb (length s) 2) _ _ e in
@@ -171,7 +173,7 @@ whole-report s h p =
     append_assoc (head_of f (length l)) (body_of l) (drop (head_size + finding_size * n) s) ∙ ap₂ ◌++◌ head body ∙ take-append-drop head_size s in
     sym whole ∙ ap (λ (k : ℕ). report_of f l ++ drop k s) (sym size)
 
-module _ (s : List ℕ) {c : Content} (e : content_of s ≡ gives c) where
+module _ (s : List ℕ) {c : Content} (e : content_of s ≡ Ok c) where
   pub reportable-read : Reportable c.flags c.findings
   reportable-read =
       let p = read-passed s e in
@@ -182,3 +184,11 @@ module _ (s : List ℕ) {c : Content} (e : content_of s ≡ gives c) where
   report-read h =
       let p = read-passed s e in
       (reportable-read, subst (λ (d : Content). s ≡ report_of d.flags d.findings ++ drop (length (report_of d.flags d.findings)) s) p.1 (whole-report s h p.0))
+
+-- a report has at most fifteen findings
+few-read : (s : List ℕ) (v : Answer Content) → content_of s ≡ v → length (contained v) ≤ 15
+few-read s (Ok c) e = (reportable-read s e).few
+few-read s (Err why) e = omega arith
+
+pub few_held : (s : List ℕ) → length (contained (content_of s)) ≤ 15
+few_held s = few-read s (content_of s) refl

@@ -1,32 +1,28 @@
--- Parts of reading a report: a refusal, a body that was gathered, and the tests before the flags. Only private functions promise in these terms.
+-- Parts of reading a report: what stands before its findings, and what is accepted. Only private functions promise in these terms.
 -- Assumes nothing.
-use Rattle.std.specs.Prelude.{ℕ, ◌+◌, ◌<◌, ◌≤◌, ◌≡◌, List, [], length, get_or}
+use Rattle.std.specs.Prelude.{ℕ, ◌+◌, List, ltb, eqb, length, get_or, Ok, Err}
 use Rattle.reading.specs.Pick.{pick}
-use Rattle.reading.specs.Said.{gives, refuses, refused, told}
-use Rattle.reading.specs.declared.Refusal.{Refusal}
-use Rattle.findings.specs.declared.Finding.{Finding}
+use Rattle.reading.specs.declared.Refusal.TheVariants.{ReportCut, ReportMalformed, ReportVersion}
+use Rattle.reading.specs.Refusal.{Answer, onward}
+use Rattle.findings.specs.declared.Findings.{Findings}
 use Rattle.findings.specs.Hold.{holding}
-use Rattle.rules.specs.Table.{all_in}
-use Rattle.report.specs.Form.{form_version}
-use Rattle.report.specs.Read.{length_in, Read}
-use Rattle.report.specs.declared.Gathered.{Gathered}
+use Rattle.report.specs.Form.{form_version, rest_of}
+use Rattle.report.specs.Read.{Content, length_in}
+use Rattle.report.specs.declared.Counted.{Counted}
 
--- a refusal with no findings, and a body that was gathered
-abbrev pub read_refused : Refusal → Read
-read_refused why = record { answer = refuses (told why); findings = holding [] }
+-- the flags and the number of findings, where all but the findings is as it must be: the tests of `content_of`, in their order
+unfoldable pub start_of : List ℕ → Answer Counted
+start_of s =
+    pick (ltb (length s) 2) (Err ReportCut)
+    (pick (ltb (length s) (2 + length_in s)) (Err ReportCut)
+    (pick (eqb (length_in s) 0) (Err ReportMalformed)
+    (pick (eqb (get_or s 2 0) form_version)
+    (pick (ltb (length_in s) 3) (Err ReportMalformed)
+    (pick (ltb 3 (get_or s 3 0)) (Err ReportMalformed)
+    (pick (ltb 15 (get_or s 4 0)) (Err ReportMalformed)
+    (pick (eqb (length_in s) (rest_of (get_or s 4 0))) (Ok (record { flags = get_or s 3 0; count = get_or s 4 0 })) (Err ReportMalformed)))))
+    (Err ReportVersion))))
 
-abbrev pub gathered_of : List Finding → Gathered
-gathered_of l = record { ok = all_in l; findings = holding l }
-
-abbrev pub accepted_of : (flags : ℕ) → Gathered → Read
-accepted_of flags g =
-    pick g.ok
-    (record { answer = gives (record { flags = flags; count = g.findings.count }); findings = g.findings })
-    (record { answer = refused 11 0 0; findings = holding [] })
-
--- what the tests before the flags have shown, where rest bytes follow the first two
-pub record IsHeaded (s : List ℕ) (rest : ℕ) : Type 0 where
-  pub told : rest ≡ length_in s
-  pub whole : 2 + rest ≤ length s
-  pub some : 0 < rest
-  pub version : get_or s 2 0 ≡ form_version
+-- what a report says, in arrays
+abbrev pub accepted_of : Answer Content → Answer (Counted × Findings)
+accepted_of c = onward Err c (λ r. Ok (record { flags = r.flags; count = length r.findings }, holding r.findings))

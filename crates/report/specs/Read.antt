@@ -1,15 +1,14 @@
 -- What reading a report answers. Assumes nothing.
-use Rattle.std.specs.Prelude.{ℕ, ◌+◌, ◌*◌, List, [], ltb, eqb, length, get_or, drop}
+use Rattle.std.specs.Prelude.{ℕ, ◌+◌, ◌*◌, List, [], ltb, eqb, length, get_or, drop, Ok, Err}
 use Rattle.reading.specs.Pick.{pick}
+use Rattle.reading.specs.declared.Refusal.TheVariants.{ListTooShort, ReportCut, ReportMalformed, ReportVersion}
 use Rattle.reading.specs.Lent.{listed}
-use Rattle.reading.specs.Said.{Said, gives, refuses, refused, told, onward}
+use Rattle.reading.specs.Refusal.{Answer, onward}
 use Rattle.findings.specs.declared.Finding.{Finding}
-use Rattle.findings.specs.declared.Findings.{Findings}
 use Rattle.findings.specs.Hold.{holding}
 use Rattle.rules.specs.Table.{all_in}
 use Rattle.report.specs.Form.{head_size, form_version, rest_of, findings_in}
-use Rattle.report.specs.declared.ReadAnswer.{ReadAnswer}
-use Rattle.report.specs.declared.ReadAnswer.TheVariants as read
+use Rattle.report.specs.declared.Counted.{Counted}
 use Rattle.report.specs.declared.Reading.{Reading}
 
 -- what a report says: its flags and its findings
@@ -25,51 +24,36 @@ abbrev pub content_in : List ℕ → Content
 content_in s = record { flags = get_or s 3 0; findings = findings_in (drop head_size s) (get_or s 4 0) }
 
 -- 9, then length 0 (11), then 10, then the rest of 11; what stands after the report is not looked at
-unfoldable pub content_of : List ℕ → Said Content
+unfoldable pub content_of : List ℕ → Answer Content
 content_of s =
-    pick (ltb (length s) 2) (refused 9 0 0)
-    (pick (ltb (length s) (2 + length_in s)) (refused 9 0 0)
-    (pick (eqb (length_in s) 0) (refused 11 0 0)
+    pick (ltb (length s) 2) (Err ReportCut)
+    (pick (ltb (length s) (2 + length_in s)) (Err ReportCut)
+    (pick (eqb (length_in s) 0) (Err ReportMalformed)
     (pick (eqb (get_or s 2 0) form_version)
-    (pick (ltb (length_in s) 3) (refused 11 0 0)
-    (pick (ltb 3 (get_or s 3 0)) (refused 11 0 0)
-    (pick (ltb 15 (get_or s 4 0)) (refused 11 0 0)
+    (pick (ltb (length_in s) 3) (Err ReportMalformed)
+    (pick (ltb 3 (get_or s 3 0)) (Err ReportMalformed)
+    (pick (ltb 15 (get_or s 4 0)) (Err ReportMalformed)
     (pick (eqb (length_in s) (rest_of (get_or s 4 0)))
-    (pick (all_in (findings_in (drop head_size s) (get_or s 4 0))) (gives (content_in s)) (refused 11 0 0))
-    (refused 11 0 0)))))
-    (refused 10 0 0))))
+    (pick (all_in (findings_in (drop head_size s) (get_or s 4 0))) (Ok (content_in s)) (Err ReportMalformed))
+    (Err ReportMalformed)))))
+    (Err ReportVersion))))
 
 -- the answer: the flags and how many findings
-pub record Counted : Type 0 where
-  pub flags : ℕ
-  pub count : ℕ
-
-abbrev pub counted : Said Content → Said Counted
-counted c = onward refuses c (λ r. gives (record { flags = r.flags; count = length r.findings }))
+abbrev pub counted : Answer Content → Answer Counted
+counted c = onward Err c (λ r. Ok (record { flags = r.flags; count = length r.findings }))
 
 -- the findings, none where there is no report
-abbrev pub contained : Said Content → List Finding
+abbrev pub contained : Answer Content → List Finding
 contained c = onward (λ t. []) c (λ r. r.findings)
 
-abbrev pub read_said : ReadAnswer → Said Counted
-read_said (read.Report flags count) = gives (record { flags = flags; count = count })
-read_said (read.Refused why) = refuses (told why)
-
-pub record Read : Type 0 where
-  pub answer : Said Counted
-  pub findings : Findings
-
-abbrev pub reading_said : Reading → Read
-reading_said r = record { answer = read_said r.answer; findings = r.findings }
-
-abbrev pub reading_of : List ℕ → Read
+abbrev pub reading_of : List ℕ → Reading
 reading_of s = record { answer = counted (content_of s); findings = holding (contained (content_of s)) }
 
 -- refusal 4 first, under fifteen places
-abbrev pub read_replied : ℕ → Said Counted → Said Counted
-read_replied len answer = pick (ltb len 15) (refused 4 0 0) answer
+abbrev pub read_replied : ℕ → Answer Counted → Answer Counted
+read_replied len answer = pick (ltb len 15) (Err ListTooShort) answer
 
-unfoldable pub read_of : List ℕ → (len : ℕ) → Said Counted
+unfoldable pub read_of : List ℕ → (len : ℕ) → Answer Counted
 read_of s len = read_replied len (counted (content_of s))
 
 -- the lent list afterwards

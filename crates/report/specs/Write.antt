@@ -1,13 +1,11 @@
 -- What writing a report answers, and what stands in the buffer afterwards. Assumes nothing.
-use Rattle.std.specs.Prelude.{ℕ, ◌+◌, ◌*◌, List, ltb, length, take}
+use Rattle.std.specs.Prelude.{ℕ, ◌+◌, ◌*◌, List, ltb, length, take, Ok, Err}
 use Rattle.reading.specs.Pick.{pick}
-use Rattle.reading.specs.Said.{Said, gives, refuses, refused, told}
+use Rattle.reading.specs.declared.Refusal.TheVariants.{BufferTooSmall, NotReportable}
+use Rattle.reading.specs.Refusal.{Answer}
 use Rattle.reading.specs.Lent.{laid}
 use Rattle.findings.specs.declared.Finding.{Finding}
 use Rattle.findings.specs.declared.Findings.{Findings}
-use Rattle.decoders.specs.declared.identity.IdentityAnswer.{IdentityAnswer}
-use Rattle.decoders.specs.declared.timing.TimingsAnswer.{TimingsAnswer}
-use Rattle.decoders.specs.Answers.{identity_said, timings_said}
 use Rattle.decoders.specs.Identity.{identity_of}
 use Rattle.decoders.specs.Timing.{timings_of}
 use Rattle.rules.specs.declared.Edition.{Edition}
@@ -16,61 +14,47 @@ use Rattle.rules.specs.Lint.{findings_of}
 use Rattle.report.specs.Form.{rest_of, report_of}
 use Rattle.decoders.specs.declared.identity.IdentityAndBase.{IdentityAndBase}
 use Rattle.decoders.specs.declared.timing.Timings.{Timings}
-use Rattle.report.specs.declared.WriteAnswer.{WriteAnswer}
 use Rattle.report.specs.declared.LintReport.{LintReport}
-use Rattle.report.specs.declared.WriteAnswer.TheVariants as write
-
-abbrev pub write_said : WriteAnswer → Said ℕ
-write_said (write.Bytes n) = gives n
-write_said (write.Refused why) = refuses (told why)
 
 -- n findings into so much room
-abbrev pub fitted : (n room : ℕ) → Said ℕ
-fitted n room = pick (ltb room (rest_of n + 2)) (refused 8 0 0) (gives (rest_of n + 2))
+abbrev pub fitted : (n room : ℕ) → Answer ℕ
+fitted n room = pick (ltb room (rest_of n + 2)) (Err BufferTooSmall) (Ok (rest_of n + 2))
 
 -- 12 for a list over fifteen, flags over 3 or a finding outside the table; then 8
-unfoldable pub write_of : (flags : ℕ) → List Finding → (room : ℕ) → Said ℕ
+unfoldable pub write_of : (flags : ℕ) → List Finding → (room : ℕ) → Answer ℕ
 write_of flags l room =
-    pick (ltb 15 (length l)) (refused 12 0 0)
-    (pick (ltb 3 flags) (refused 12 0 0)
-    (pick (all_in l) (fitted (length l) room) (refused 12 0 0)))
+    pick (ltb 15 (length l)) (Err NotReportable)
+    (pick (ltb 3 flags) (Err NotReportable)
+    (pick (all_in l) (fitted (length l) room) (Err NotReportable)))
 
 -- findings by value: a count over fifteen is a list over fifteen
-unfoldable pub found_of : (flags : ℕ) → Findings → (room : ℕ) → Said ℕ
+unfoldable pub found_of : (flags : ℕ) → Findings → (room : ℕ) → Answer ℕ
 found_of flags f room =
-    pick (ltb 15 f.count) (refused 12 0 0) (write_of flags (take f.count f.items) room)
+    pick (ltb 15 f.count) (Err NotReportable) (write_of flags (take f.count f.items) room)
 
 -- the buffer afterwards: the report at its front, or as it was
-unfoldable pub written_over : Said ℕ → (flags : ℕ) → List Finding → List ℕ → List ℕ
-written_over (gives n) flags l out = laid (report_of flags l) out
-written_over (refuses t) flags l out = out
+unfoldable pub written_over : Answer ℕ → (flags : ℕ) → List Finding → List ℕ → List ℕ
+written_over (Ok n) flags l out = laid (report_of flags l) out
+written_over (Err t) flags l out = out
 
 -- bit 0: identity decoded; bit 1: timings decoded
-abbrev pub decoded : {A : Type 0} → Said A → ℕ
-decoded (gives a) = 1
-decoded (refuses t) = 0
+abbrev pub decoded : {A : Type 0} → Answer A → ℕ
+decoded (Ok a) = 1
+decoded (Err t) = 0
 
-abbrev pub flags_for : {A B : Type 0} → Said A → Said B → ℕ
+abbrev pub flags_for : {A B : Type 0} → Answer A → Answer B → ℕ
 flags_for identity timings = decoded identity + 2 * decoded timings
 
-abbrev pub flags_of : IdentityAnswer → TimingsAnswer → ℕ
-flags_of identity timings = flags_for (identity_said identity) (timings_said timings)
+abbrev pub flags_of : Answer IdentityAndBase → Answer Timings → ℕ
+flags_of identity timings = flags_for identity timings
 
 -- the bytes of an image's report under an edition: want of room is the only refusal
-unfoldable pub lint_report_of : Edition → List ℕ → (room : ℕ) → Said ℕ
+unfoldable pub lint_report_of : Edition → List ℕ → (room : ℕ) → Answer ℕ
 lint_report_of e s room = fitted (length (findings_of e s)) room
 
 -- the whole answer: what each decoder says of the image, its refusal with number and values included, and the bytes written
-pub record Reported : Type 0 where
-  pub identity : Said IdentityAndBase
-  pub timings : Said Timings
-  pub written : Said ℕ
-
-abbrev pub reported_of : Edition → List ℕ → (room : ℕ) → Reported
+abbrev pub reported_of : Edition → List ℕ → (room : ℕ) → LintReport
 reported_of e s room = record { identity = identity_of s; timings = timings_of s; written = lint_report_of e s room }
-
-abbrev pub lint_report_said : LintReport → Reported
-lint_report_said r = record { identity = identity_said r.identity; timings = timings_said r.timings; written = write_said r.written }
 
 -- the buffer afterwards
 unfoldable pub lint_report_after : Edition → List ℕ → List ℕ → List ℕ

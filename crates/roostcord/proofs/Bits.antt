@@ -1,6 +1,7 @@
 -- Every refusal that a call of the C library gives has its values within their bits, where what is lent are bytes: so no two of them have
 -- the same word. A missing offset is one that is read, a field's number is at most 24, a code and a device type are bytes, a count has twelve
 -- bits. Assumes nothing.
+use Rattle.std.specs.Prelude.{Ok, Err}
 use Prim.Native.Nat.{ℕ, zero, suc, ◌+◌, ◌<◌}
 use mathlib.Core.Path.{◌≡◌, subst}
 use mathlib.Core.List.{List, [], ◌∷◌}
@@ -8,7 +9,7 @@ use native.Mathlib.Omega.{arith}
 use lib.Dec.{eqb, ltb, leb}
 use lib.ListN.{length, get_or, take, drop}
 use lib.Seq.{get_or-drop}
-use Rattle.reading.specs.Said.{Told, Said, gives, refuses, onward, told}
+use Rattle.reading.specs.Refusal.{Answer, onward, told}
 use Rattle.reading.specs.Bytes.{AllBytes}
 use Rattle.reading.specs.View.{View, view}
 use Rattle.reading.specs.declared.Refusal.{Refusal}
@@ -42,14 +43,14 @@ use Rattle.roostcord.specs.State.{short, count_in, edition_in, arrived_in, asked
 use Rattle.roostcord.proofs.Once.{InBits, word-once}
 
 -- a refusal, if it is one, has its values within their bits
-abbrev Small : Told → Type 0
-Small t = (t.first < 4096) × (t.second < 1024)
+abbrev Small : Refusal → Type 0
+Small t = ((told t).first < 4096) × ((told t).second < 1024)
 
-abbrev pub Fits : {A : Type 0} → Said A → Type 0
+abbrev pub Fits : {A : Type 0} → Answer A → Type 0
 Fits said = OfRefused Small said
 
 -- a step of a chain of checks
-on_fits : {A B : Type 0} (s : Said A) (go : A → Said B) → Fits s → ((a : A) → Fits (go a)) → Fits (onward refuses s go)
+on_fits : {A B : Type 0} (s : Answer A) (go : A → Answer B) → Fits s → ((a : A) → Fits (go a)) → Fits (onward Err s go)
 on_fits = onward-refused Small
 
 -- a refusal that carries nothing
@@ -108,7 +109,7 @@ table_fits : (t : Timings) → Fits (clock_table_of t)
 unfolding clock_table_of
 table_fits t = either Fits (eqb t.tckavg_min.0 0) plain tt
 
-listed-fits : (need : ℕ) (numbers : Said (List ℕ)) (room : ℕ) → Fits numbers → Fits (listed_in need numbers room)
+listed-fits : (need : ℕ) (numbers : Answer (List ℕ)) (room : ℕ) → Fits numbers → Fits (listed_in need numbers room)
 unfolding listed_in
 listed-fits need numbers room h = either Fits (ltb room need) plain (on_fits numbers _ h (λ l. tt))
 
@@ -138,7 +139,7 @@ unfolding sound_read_of
 sound-bits first second = either Fits (sound_in first) tt (either Fits (sound_in second) tt plain)
 
 -- ---- a call that is given an edition
-chosen-bits : {A : Type 0} (n : ℕ) (answer : Edition → Said A) → ((e : Edition) → Fits (answer e)) → Fits (chosen n answer)
+chosen-bits : {A : Type 0} (n : ℕ) (answer : Edition → Answer A) → ((e : Edition) → Fits (answer e)) → Fits (chosen n answer)
 chosen-bits n answer h = on_fits (edition_of n) _ (either Fits (eqb n 1) tt (either Fits (eqb n 2) tt plain)) h
 
 -- ---- the calls on an image, and on a report
@@ -196,16 +197,16 @@ bytes_take (suc n) (x ∷ s) h zero = h 0
 bytes_take (suc n) (x ∷ s) h (suc i) = bytes_take n s (λ j. h (suc j)) i
 
 module _ (s : List ℕ) where
-  pub asked-bits : {A : Type 0} (said : Said A) → Fits said → Fits (asked s said)
+  pub asked-bits : {A : Type 0} (said : Answer A) → Fits said → Fits (asked s said)
   asked-bits said h = either Fits (short s) plain h
 
   pub fresh-bits : (n : ℕ) → Fits (fresh_in n s)
   unfolding fresh_in
-  fresh-bits n = chosen-bits n _ (λ e. asked-bits (gives 0) tt)
+  fresh-bits n = chosen-bits n _ (λ e. asked-bits (Ok 0) tt)
 
   pub taken-bits : Fits (taken_in s)
   unfolding taken_in
-  taken-bits = asked-bits (gives (count_in s)) tt
+  taken-bits = asked-bits (Ok (count_in s)) tt
 
   pub state-crc-bits : Fits (asked s (crc_number (arrived_in s)))
   state-crc-bits = asked-bits _ (crc-bits (arrived_in s))
@@ -247,12 +248,12 @@ module _ (s : List ℕ) where
     state-part-bits = asked-bits _ (part-bits (arrived_in s) room)
 
 -- ---- a refusal that fits is one of those that no two have one word of
-pub in-bits : {A : Type 0} (said : Said A) (r : Refusal) → Fits said → said ≡ refuses (told r) → InBits r
+pub in-bits : {A : Type 0} (said : Answer A) (r : Refusal) → Fits said → said ≡ Err r → InBits r
 in-bits {A} said r h e =
-    let p : Fits {A = A} (refuses (told r)) = subst (λ (x : Said A). Fits x) e h in
+    let p : Fits {A = A} (Err r) = subst (λ (x : Answer A). Fits x) e h in
     record { first = p.0; second = p.1 }
 
 -- two answers of calls, of whichever, that are refused with one word have one refusal
-pub refused-once : {A B : Type 0} (x : Said A) (y : Said B) (a b : Refusal) → Fits x → Fits y → x ≡ refuses (told a) → y ≡ refuses (told b)
+pub refused-once : {A B : Type 0} (x : Answer A) (y : Answer B) (a b : Refusal) → Fits x → Fits y → x ≡ Err a → y ≡ Err b
     → refusal_word (told a) ≡ refusal_word (told b) → a ≡ b
 refused-once x y a b h k e f w = word-once a b (in-bits x a h e) (in-bits y b k f) w

@@ -1,5 +1,6 @@
 -- The state in lent bytes is tied to the state by value. A count that feeding leads to is within the longest image, so its two bytes hold it,
 -- and the bytes after a call are the state after that call; what is known of a run of calls by value then holds of the bytes. Assumes nothing.
+use Rattle.std.specs.Prelude.{Ok, Err}
 use Prim.Native.Nat.{ℕ, zero, suc, ◌+◌, ◌*◌, ◌/◌, ◌%◌, ◌<◌, ◌≤◌}
 use mathlib.Core.Path.{◌≡◌, refl, ap, sym, subst, subst⁻¹, ◌∙◌}
 use mathlib.Core.Bool.{false}
@@ -10,13 +11,15 @@ use lib.ListN.{length, take, drop, replicate, length-append, length-take, length
 use lib.Seq.{take_at, drop_at}
 use borrow.Author.Tests.{eq-eqb, ne_eqb, le-ltb, ltb-false}
 use Rattle.reading.specs.Pick.{pick}
-use Rattle.reading.specs.Said.{Told, Said, gives, refuses}
+use Rattle.reading.specs.Refusal.{Answer}
+use Rattle.reading.specs.declared.Refusal.{Refusal}
 use Rattle.reading.proofs.Picked.{by-test}
 use Rattle.rules.specs.declared.Edition.{Edition}
 use Rattle.rules.specs.declared.Edition.TheVariants.{First, Second}
 use Rattle.rules.specs.Lint.{edition_of}
 use Rattle.pieces.specs.declared.Pieces.{Pieces}
-use Rattle.pieces.specs.Fed.{kept_bytes, longest, overlaid, Feeding, accepted_at, fed_by, fresh_pieces, kept_of, Holds}
+use Rattle.pieces.specs.declared.Fed.{Fed}
+use Rattle.pieces.specs.Fed.{kept_bytes, longest, overlaid, accepted_at, fed_by, fresh_pieces, kept_of, Holds}
 use Rattle.pieces.specs.Run.{Call, run_from, run, image, answers_from, said_from}
 use Rattle.pieces.proofs.Accepting.{given, by_answer}
 use Rattle.pieces.proofs.Running.{run_holds, run-says, run-edition}
@@ -64,12 +67,12 @@ module _ (p : Pieces) (rest : List ℕ) (k : length p.kept ≡ kept_bytes) where
   long = omega (arith, length-append p.kept rest)
 
 -- a number that is no edition leaves the bytes as they were, however many they are
-pub fresh-refused : (n : ℕ) (s : List ℕ) (t : Told) → edition_of n ≡ refuses t → (fresh_in n s ≡ refuses t) × (fresh_after n s ≡ s)
+pub fresh-refused : (n : ℕ) (s : List ℕ) (t : Refusal) → edition_of n ≡ Err t → (fresh_in n s ≡ Err t) × (fresh_after n s ≡ s)
 unfolding fresh_in fresh_after
 fresh-refused n s t e = rw e (refl, refl)
 
 module _ (s : List ℕ) (h : state_size ≤ length s) where
-  module _ (n : ℕ) {e : Edition} (c : edition_of n ≡ gives e) where
+  module _ (n : ℕ) {e : Edition} (c : edition_of n ≡ Ok e) where
     pub fresh-tied : state_in (fresh_after n s) ≡ fresh_pieces e
     unfolding fresh_after
     fresh-tied = rw (c, le-ltb (length s) state_size h) (back (fresh_pieces e) (drop state_size s) refl (omega arith))
@@ -90,9 +93,9 @@ module _ (s : List ℕ) (h : state_size ≤ length s) where
     kept-all = length_over (take kept_bytes (drop 2 s)) (count_in s) piece ∙ simp (length-take, length-drop) (omega arith)
 
     -- what holds where a piece is taken, and where it is refused, holds of feeding
-    by-feeding : (P : List ℕ → Feeding → Type 0)
-        → ((n : ℕ) → n ≤ longest → P (state_bytes (later n) ++ drop state_size s) (record { state = later n; answer = gives n }))
-        → ((t : Told) → P s (record { state = state_in s; answer = refuses t }))
+    by-feeding : (P : List ℕ → Fed → Type 0)
+        → ((n : ℕ) → n ≤ longest → P (state_bytes (later n) ++ drop state_size s) (record { state = later n; answer = Ok n }))
+        → ((t : Refusal) → P s (record { state = state_in s; answer = Err t }))
         → P (feed_after s offset piece) (fed_by (state_in s) offset piece)
     unfolding feed_after
     by-feeding P took kept = by_answer (accepted_at (count_in s) offset (length piece))
@@ -113,11 +116,11 @@ module _ (s : List ℕ) (h : state_size ≤ length s) where
     fed-long : state_size ≤ length (feed_after s offset piece)
     fed-long = by-feeding (λ l f. state_size ≤ length l) (λ n m. long (later n) (drop state_size s) kept-all) (λ t. h)
 
-    kept-refused : (t : Told) → (fed_by (state_in s) offset piece).answer ≡ refuses t → feed_after s offset piece ≡ s
-    kept-refused = by-feeding (λ l f. (t : Told) → f.answer ≡ refuses t → l ≡ s) (λ n m t e. absurd (let z : ◌≡◌ {A = ℕ} 0 1 = cc in omega arith)) (λ u t e. refl)
+    kept-refused : (t : Refusal) → (fed_by (state_in s) offset piece).answer ≡ Err t → feed_after s offset piece ≡ s
+    kept-refused = by-feeding (λ l f. (t : Refusal) → f.answer ≡ Err t → l ≡ s) (λ n m t e. absurd (let z : ◌≡◌ {A = ℕ} 0 1 = cc in omega arith)) (λ u t e. refl)
 
 -- a call that is refused leaves the bytes as they were, however many they are
-pub fed-refused : (s : List ℕ) (offset : ℕ) (piece : List ℕ) (t : Told) → feed_in s offset piece ≡ refuses t → feed_after s offset piece ≡ s
+pub fed-refused : (s : List ℕ) (offset : ℕ) (piece : List ℕ) (t : Refusal) → feed_in s offset piece ≡ Err t → feed_after s offset piece ≡ s
 unfolding feed_in feed_after
 fed-refused s offset piece t e = by-test (short s)
     (λ f. rw f)
@@ -144,7 +147,7 @@ ran (c ∷ cs) s h =
     }
 
 -- any list of calls, from a fresh state of the edition that a number stands for
-module _ (n : ℕ) {e : Edition} (c : edition_of n ≡ gives e) (cs : List Call) (s : List ℕ) (h : state_size ≤ length s) where
+module _ (n : ℕ) {e : Edition} (c : edition_of n ≡ Ok e) (cs : List Call) (s : List ℕ) (h : state_size ≤ length s) where
   abbrev fed : List ℕ
   fed = fed_bytes (fresh_after n s) cs
 
@@ -223,7 +226,7 @@ module _ (n : ℕ) {e : Edition} (c : edition_of n ≡ gives e) (cs : List Call)
   as-image : (q : Question) (lent : List ℕ) → q.answer (arrived_in fed) ≡ q.answer (image cs) → q.after (arrived_in fed) ≡ q.after (image cs) → AsImage q lent
   as-image q lent a b = rw fed-whole (a, b)
 
-  listed-as : (need : ℕ) (numbers : List ℕ → Said (List ℕ)) (out : List ℕ) → numbers (arrived_in fed) ≡ numbers (image cs) → AsImage (listing need numbers out) out
+  listed-as : (need : ℕ) (numbers : List ℕ → Answer (List ℕ)) (out : List ℕ) → numbers (arrived_in fed) ≡ numbers (image cs) → AsImage (listing need numbers out) out
   listed-as need numbers out a = as-image (listing need numbers out) out (rw a) (rw a)
 
   module _ (out : List ℕ) where
@@ -256,6 +259,6 @@ module _ (n : ℕ) {e : Edition} (c : edition_of n ≡ gives e) (cs : List Call)
   pub ask-crc : asked fed (crc_number (arrived_in fed)) ≡ crc_number (image cs)
   ask-crc = rw fed-whole fed-crc
 
-  pub ask-taken : taken_in fed ≡ gives (length (image cs))
+  pub ask-taken : taken_in fed ≡ Ok (length (image cs))
   unfolding taken_in
-  ask-taken = rw fed-whole (ap gives fed-holds.count)
+  ask-taken = rw fed-whole (ap Ok fed-holds.count)

@@ -2,3 +2,4 @@ pub mod Word
 pub mod Numbers
 pub mod Chosen
 pub mod State
+pub mod Parts

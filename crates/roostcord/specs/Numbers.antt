@@ -1,7 +1,8 @@
 -- Records as lists of numbers, in the order that station/roostcord.h gives, and a lent list of numbers after a call. Assumes nothing.
-use Rattle.std.specs.Prelude.{ℕ, ◌/◌, ◌%◌, Bool, true, false, List, [], ◌∷◌, eqb, ltb, length}
+use Rattle.std.specs.Prelude.{ℕ, ◌/◌, ◌%◌, Bool, true, false, List, [], ◌∷◌, eqb, ltb, length, Ok, Err}
 use Rattle.reading.specs.Pick.{pick}
-use Rattle.reading.specs.Said.{Said, gives, refuses, refused, onward}
+use Rattle.reading.specs.declared.Refusal.TheVariants.{ListTooShort}
+use Rattle.reading.specs.Refusal.{Answer, onward}
 use Rattle.reading.specs.Lent.{laid}
 use Rattle.decoders.specs.Codes.{device_code, module_code, gigabits_in, package_code, bits_in, groups_in, banks_in}
 use Rattle.decoders.specs.Cas.{cas_list}
@@ -118,49 +119,53 @@ finding_numbers (f ∷ l) =
 abbrev pub report_numbers : Content → List ℕ
 report_numbers c = c.flags ∷ finding_numbers c.findings
 
+-- the numbers of a record, or the refusal that stands for it
+abbrev pub numbers_in : {A : Type 0} → (A → List ℕ) → Answer A → Answer (List ℕ)
+numbers_in numbers answer = onward Err answer (λ a. Ok (numbers a))
+
 -- the numbers of an image, or the decoder's refusal
-unfoldable pub identity_list : List ℕ → Said (List ℕ)
-identity_list s = onward refuses (identity_of s) (λ d. gives (identity_numbers d))
+unfoldable pub identity_list : List ℕ → Answer (List ℕ)
+identity_list s = numbers_in identity_numbers (identity_of s)
 
-unfoldable pub timings_list : List ℕ → Said (List ℕ)
-timings_list s = onward refuses (timings_of s) (λ t. gives (timing_numbers t))
+unfoldable pub timings_list : List ℕ → Answer (List ℕ)
+timings_list s = numbers_in timing_numbers (timings_of s)
 
-unfoldable pub cas_numbers : List ℕ → Said (List ℕ)
-cas_numbers s = onward refuses (timings_of s) (λ t. gives (cas_list t.supported_cas_latencies))
+unfoldable pub cas_numbers : List ℕ → Answer (List ℕ)
+cas_numbers s = numbers_in (λ t. cas_list t.supported_cas_latencies) (timings_of s)
 
-unfoldable pub clocks_list : List ℕ → Said (List ℕ)
-clocks_list s = onward refuses (timings_of s) (λ t. onward refuses (clock_table_of t) (λ c. gives (clock_numbers c)))
+unfoldable pub clocks_list : List ℕ → Answer (List ℕ)
+clocks_list s = onward Err (timings_of s) (λ t. numbers_in clock_numbers (clock_table_of t))
 
 -- 0 asks for the date as it is, any other number in the strict mode
 abbrev pub mode_of : ℕ → DateMode
 mode_of strict = pick (eqb strict 0) AsIs Strict
 
-unfoldable pub manufacturing_list : (strict : ℕ) → List ℕ → Said (List ℕ)
-manufacturing_list strict s = onward refuses (manufacturing_of (mode_of strict) s) (λ m. gives (manufacturing_numbers m (length (part_of s))))
+unfoldable pub manufacturing_list : (strict : ℕ) → List ℕ → Answer (List ℕ)
+manufacturing_list strict s = numbers_in (λ m. manufacturing_numbers m (length (part_of s))) (manufacturing_of (mode_of strict) s)
 
 -- the part number's bytes, or the refusal of the block as it is
-unfoldable pub part_list : List ℕ → Said (List ℕ)
-part_list s = onward refuses (manufacturing_of AsIs s) (λ m. gives (part_of s))
+unfoldable pub part_list : List ℕ → Answer (List ℕ)
+part_list s = numbers_in (λ m. part_of s) (manufacturing_of AsIs s)
 
 -- the record of a DDR4 image, and its findings
-unfoldable pub ddr4_list : List ℕ → Said (List ℕ)
-ddr4_list s = onward refuses (ddr4_of s) (λ d. gives (ddr4_numbers d))
+unfoldable pub ddr4_list : List ℕ → Answer (List ℕ)
+ddr4_list s = numbers_in ddr4_numbers (ddr4_of s)
 
-unfoldable pub ddr4_lint_list : List ℕ → Said (List ℕ)
-ddr4_lint_list s = onward refuses (ddr4_of s) (λ d. gives (finding_numbers (ddr4_found d)))
+unfoldable pub ddr4_lint_list : List ℕ → Answer (List ℕ)
+ddr4_lint_list s = numbers_in (λ d. finding_numbers (ddr4_found d)) (ddr4_of s)
 
 -- the check of the base block: 1 where its CRC fits, 0 where it does not, or the refusal
-unfoldable pub crc_number : List ℕ → Said ℕ
-crc_number s = onward refuses (base_crc_of s) (λ fits. gives (bit fits))
+unfoldable pub crc_number : List ℕ → Answer ℕ
+crc_number s = onward Err (base_crc_of s) (λ fits. Ok (bit fits))
 
 -- the numbers of a report, or the reader's refusal
-unfoldable pub report_list : List ℕ → Said (List ℕ)
-report_list s = onward refuses (content_of s) (λ c. gives (report_numbers c))
+unfoldable pub report_list : List ℕ → Answer (List ℕ)
+report_list s = numbers_in report_numbers (content_of s)
 
 -- how many numbers are written into so much room: refusal 4 first, then the decoder's or the reader's
-unfoldable pub listed_in : (need : ℕ) → Said (List ℕ) → (room : ℕ) → Said ℕ
-listed_in need numbers room = pick (ltb room need) (refused 4 0 0) (onward refuses numbers (λ l. gives (length l)))
+unfoldable pub listed_in : (need : ℕ) → Answer (List ℕ) → (room : ℕ) → Answer ℕ
+listed_in need numbers room = pick (ltb room need) (Err ListTooShort) (onward Err numbers (λ l. Ok (length l)))
 
 -- the lent list afterwards: the numbers in its first places, or as it was
-unfoldable pub list_after : (need : ℕ) → Said (List ℕ) → List ℕ → List ℕ
+unfoldable pub list_after : (need : ℕ) → Answer (List ℕ) → List ℕ → List ℕ
 list_after need numbers out = pick (ltb (length out) need) out (onward (λ t. out) numbers (λ l. laid l out))

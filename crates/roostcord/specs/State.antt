@@ -1,8 +1,9 @@
 -- A pieces state in lent bytes: the count taken in two bytes, low byte first, and the bytes that are kept. A count has twelve bits;
 -- no feeding leads past the longest image. The bit above them is set where the edition is 1. Assumes nothing.
-use Rattle.std.specs.Prelude.{ℕ, ◌+◌, ◌*◌, ◌/◌, ◌%◌, List, [], ◌∷◌, ◌++◌, Bool, eqb, ltb, length, get_or, take, drop}
+use Rattle.std.specs.Prelude.{ℕ, ◌+◌, ◌*◌, ◌/◌, ◌%◌, List, [], ◌∷◌, ◌++◌, Bool, eqb, ltb, length, get_or, take, drop, Ok, Err}
 use Rattle.reading.specs.Pick.{pick}
-use Rattle.reading.specs.Said.{Said, gives, refused, onward}
+use Rattle.reading.specs.declared.Refusal.TheVariants.{ListTooShort}
+use Rattle.reading.specs.Refusal.{Answer, onward}
 use Rattle.rules.specs.declared.Edition.{Edition}
 use Rattle.rules.specs.declared.Edition.TheVariants.{First, Second}
 use Rattle.pieces.specs.declared.Pieces.{Pieces}
@@ -40,16 +41,16 @@ abbrev pub arrived_in : List ℕ → List ℕ
 arrived_in s = kept_of (state_in s)
 
 -- a question to a state: refusal 4 where there is none
-abbrev pub asked : {A : Type 0} → List ℕ → Said A → Said A
-asked s answer = pick (short s) (refused 4 0 0) answer
+abbrev pub asked : {A : Type 0} → List ℕ → Answer A → Answer A
+asked s answer = pick (short s) (Err ListTooShort) answer
 
-unfoldable pub fresh_in : (number : ℕ) → List ℕ → Said ℕ
-fresh_in n s = chosen n (λ e. asked s (gives 0))
+unfoldable pub fresh_in : (number : ℕ) → List ℕ → Answer ℕ
+fresh_in n s = chosen n (λ e. asked s (Ok 0))
 
 unfoldable pub fresh_after : (number : ℕ) → List ℕ → List ℕ
 fresh_after n s = chosen_after n s (λ e. pick (short s) s (state_bytes (fresh_pieces e) ++ drop state_size s))
 
-unfoldable pub feed_in : List ℕ → (offset : ℕ) → List ℕ → Said ℕ
+unfoldable pub feed_in : List ℕ → (offset : ℕ) → List ℕ → Answer ℕ
 feed_in s offset piece = asked s (fed_by (state_in s) offset piece).answer
 
 -- the bytes of the later state where the piece was taken, and else the bytes as they were
@@ -58,14 +59,14 @@ feed_after s offset piece =
     pick (short s) s
     (onward (λ t. s) (fed_by (state_in s) offset piece).answer (λ n. state_bytes (fed_by (state_in s) offset piece).state ++ drop state_size s))
 
-unfoldable pub taken_in : List ℕ → Said ℕ
-taken_in s = asked s (gives (count_in s))
+unfoldable pub taken_in : List ℕ → Answer ℕ
+taken_in s = asked s (Ok (count_in s))
 
 -- the bytes that a run of calls leads to, and the answers that the bytes give
 unfoldable pub fed_bytes : List ℕ → List Call → List ℕ
 fed_bytes s [] = s
 fed_bytes s (c ∷ cs) = fed_bytes (feed_after s c.offset c.piece) cs
 
-unfoldable pub said_bytes : List ℕ → List Call → List (Said ℕ)
+unfoldable pub said_bytes : List ℕ → List Call → List (Answer ℕ)
 said_bytes s [] = []
 said_bytes s (c ∷ cs) = feed_in s c.offset c.piece ∷ said_bytes (feed_after s c.offset c.piece) cs

@@ -5,6 +5,7 @@ use Rattle.reading.proofs.Made.{made, view_made}
 use Rattle.decoders.specs.Codes.{size_of, device_of, module_of, density_of, package_of, io_width_of, bank_groups_of, banks_of, bus_width_of, channels_of}
 use Rattle.decoders.specs.Timing.{le16_at, cas_at}
 use Rattle.rules.specs.Rules.{on_ladder}
+use Rattle.rules.specs.Regions.{region_at}
 use Rattle.rules.specs.Lint.{lint_at}
 use Rattle.rules.specs.Bench.{holds, All, AllHold, bench}
 
@@ -13,7 +14,7 @@ next a b = (a, b)
 
 -- a row for each line of document 01
 computed : All (holds made) bench
-unfolding bench missing_at size_of device_of module_of density_of package_of io_width_of bank_groups_of banks_of bus_width_of channels_of le16_at cas_at on_ladder lint_at
+unfolding bench missing_at size_of device_of module_of density_of package_of io_width_of bank_groups_of banks_of bus_width_of channels_of le16_at cas_at on_ladder region_at lint_at
 computed =
     next refl (next refl (next refl
     (next refl (next refl (next refl (next refl

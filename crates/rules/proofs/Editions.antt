@@ -1,22 +1,18 @@
 -- What the editions have to do with each other. Of the sixteen rules fifteen do not ask for the edition; the one that does, on the data rate, is the
 -- last. So the findings under edition 1 are those under edition 2, in the same order, and behind them at most one on the rate: `added_at` says
 -- which. Nothing is promised in these terms. Assumes nothing.
-use Prim.Native.Nat.{ℕ, ◌%◌}
+use Rattle.std.specs.Prelude.{Option, Some, None}
+use Prim.Native.Nat.{ℕ}
 use mathlib.Core.Path.{◌≡◌, refl, sym, ap, ◌∙◌}
 use mathlib.Core.Bool.{true, false}
 use mathlib.Core.Logic.{◌⊎◌, inl, inr, ⊎_elim}
 use mathlib.Core.List.{List, [], ◌∷◌, ◌++◌, append-nil, append_assoc}
 use native.Mathlib.Omega.{arith}
-use lib.Dec.{eqb, leb}
 use lib.ListN.{take}
-use borrow.Author.Tests.{eqb-true, leb-true, le-leb}
-use Rattle.reading.specs.Pick.{pick, and}
+use Rattle.reading.specs.Pick.{pick}
 use Rattle.reading.specs.View.{View}
-use Rattle.reading.specs.Said.{Said, gives, refuses}
-use Rattle.reading.proofs.Picked.{by-test, both}
+use Rattle.reading.specs.Refusal.{Answer}
 use Rattle.findings.specs.declared.Finding.{Finding}
-use Rattle.findings.specs.declared.Found.{Found}
-use Rattle.findings.specs.declared.Found.TheVariants.{Nothing, One}
 use Rattle.findings.specs.Hold.{to_list, cat}
 use Rattle.findings.proofs.Laws.{cat-append}
 use Rattle.decoders.specs.Timing.{timings_at, rate_of}
@@ -29,25 +25,25 @@ use Rattle.rules.specs.Rules.{on_ladder, standard_rate, rated_rules, each}
 use Rattle.rules.specs.Lint.{on_given, lint_rules, lint_at, rated_findings}
 
 -- what edition 1 alone finds: a rate that is on the second ladder and not on the first
-abbrev pub only_first : (rate : ℕ) → Found
-only_first rate = pick (on_ladder First rate) Nothing (pick (on_ladder Second rate) (One (non_standard_data_rate rate)) Nothing)
+abbrev pub only_first : (rate : ℕ) → Option Finding
+only_first rate = pick (on_ladder First rate) None (pick (on_ladder Second rate) (Some (non_standard_data_rate rate)) None)
 
 -- a rule on the rate, asked of an image
-abbrev pub of_rate : (ℕ → Found) → Said Timings → Found
+abbrev pub of_rate : (ℕ → Option Finding) → Answer Timings → Option Finding
 of_rate rule said = on_given (λ t. rule (rate_of t.tckavg_min.0)) said
 
-abbrev pub rate_at : Edition → View → Found
+abbrev pub rate_at : Edition → View → Option Finding
 rate_at e v = of_rate (standard_rate e) (timings_at v)
 
 abbrev pub added_at : View → List Finding
 added_at v = to_list (of_rate only_first (timings_at v))
 
 -- 6400 is on both ladders, and 6800 on the second alone
-pub on_both : only_first 6400 ≡ Nothing
+pub on_both : only_first 6400 ≡ None
 unfolding on_ladder
 on_both = refl
 
-pub on_one : only_first 6800 ≡ One (non_standard_data_rate 6800)
+pub on_one : only_first 6800 ≡ Some (non_standard_data_rate 6800)
 unfolding on_ladder
 on_one = refl
 
@@ -55,38 +51,25 @@ on_one = refl
 -- what is on the first ladder is on the second
 pub first-second : (rate : ℕ) → on_ladder First rate ≡ true → on_ladder Second rate ≡ true
 unfolding on_ladder
-first-second rate e =
-    let (low, rest) = both (leb 3200 rate) (and (leb rate 6400) (eqb (rate % 400) 0)) e in
-    let (high, whole) = both (leb rate 6400) (eqb (rate % 400) 0) rest in
-    rw (low, le-leb rate 8800 (omega (arith, leb-true rate 6400 high)), whole)
+first-second rate e = grind arith
 
-none : only_first 0 ≡ Nothing
+none : only_first 0 ≡ None
 unfolding on_ladder
 none = refl
 
 rate-more : (rate : ℕ) → to_list (standard_rate First rate) ≡ to_list (standard_rate Second rate) ++ to_list (only_first rate)
-rate-more rate = by-test (eqb rate 0)
-    (λ z. rw z (sym (ap (λ (n : ℕ). to_list (only_first n)) (eqb-true rate 0 z) ∙ ap to_list none)))
-    (λ z. by-test (on_ladder First rate)
-    (λ f. rw (z, f, first-second rate f))
-    (λ f. by-test (on_ladder Second rate) (λ s. rw (z, f, s)) (λ s. rw (z, f, s))))
+rate-more rate = grind (arith, first-second rate, none)
 
-said_more : (s : Said Timings) → to_list (of_rate (standard_rate First) s) ≡ to_list (of_rate (standard_rate Second) s) ++ to_list (of_rate only_first s)
-said_more (gives t) = rate-more (rate_of t.tckavg_min.0)
-said_more (refuses t) = refl
+said_more : (s : Answer Timings) → to_list (of_rate (standard_rate First) s) ≡ to_list (of_rate (standard_rate Second) s) ++ to_list (of_rate only_first s)
+said_more s = grind (arith, rate-more)
 
 -- ---- a row of rules' answers, the last of which adds what z has
-behind : (xs : List Found) (x y z : Found) → to_list x ≡ to_list y ++ to_list z → cat (xs ++ (x ∷ [])) ≡ cat (xs ++ (y ∷ [])) ++ to_list z
-behind xs x y z e =
-    cat-append xs (x ∷ [])
-    ∙ ap (λ (l : List Finding). cat xs ++ l) (append-nil (to_list x) ∙ e)
-    ∙ sym (append_assoc (cat xs) (to_list y) (to_list z))
-    ∙ ap (λ (l : List Finding). (cat xs ++ l) ++ to_list z) (sym (append-nil (to_list y)))
-    ∙ ap (λ (l : List Finding). l ++ to_list z) (sym (cat-append xs (y ∷ [])))
+behind : (xs : List (Option Finding)) (x y z : Option Finding) → to_list x ≡ to_list y ++ to_list z → cat (xs ++ (x ∷ [])) ≡ cat (xs ++ (y ∷ [])) ++ to_list z
+behind xs x y z e = grind (arith, cat-append, append-nil, append_assoc)
 
 -- ---- an image
 -- what the fifteen other rules say, which is the same under both editions
-abbrev pub others : View → List Found
+abbrev pub others : View → List (Option Finding)
 others v = take 15 (each (lint_rules Second) v)
 
 pub rate-last : (e : Edition) (v : View) → each (lint_rules e) v ≡ others v ++ (rate_at e v ∷ [])
@@ -98,28 +81,19 @@ unfolding lint_at
 first_more v = behind (others v) (rate_at First v) (rate_at Second v) (of_rate only_first (timings_at v)) (said_more (timings_at v))
 
 -- where the rate rule speaks under 2, it says the same under 1
-same-rate : (rate : ℕ) (f : Finding) → standard_rate Second rate ≡ One f → standard_rate First rate ≡ One f
-same-rate rate f e = by-test (eqb rate 0)
-    (λ z. rw z (rw z at e))
-    (λ z. by-test (on_ladder First rate)
-    (λ on. rw (z, on) (rw (z, first-second rate on) at e))
-    (λ off. by-test (on_ladder Second rate)
-    (λ on.
-    let n : Nothing ≡ One f = rw (z, on) at e in
-    absurd (let y : ◌≡◌ {A = ℕ} 0 1 = cc in omega arith))
-    (λ no. rw (z, off) (rw (z, no) at e))))
+same-rate : (rate : ℕ) (f : Finding) → standard_rate Second rate ≡ Some f → standard_rate First rate ≡ Some f
+same-rate rate f e = grind (arith, first-second rate)
 
-said_same : (s : Said Timings) (f : Finding) → of_rate (standard_rate Second) s ≡ One f → of_rate (standard_rate First) s ≡ One f
-said_same (gives t) f e = same-rate (rate_of t.tckavg_min.0) f e
-said_same (refuses t) f e = e
+said_same : (s : Answer Timings) (f : Finding) → of_rate (standard_rate Second) s ≡ Some f → of_rate (standard_rate First) s ≡ Some f
+said_same s f e = grind (arith, same-rate)
 
-pub rate-kept : (v : View) (f : Finding) → rate_at Second v ≡ One f → rate_at First v ≡ One f
+pub rate-kept : (v : View) (f : Finding) → rate_at Second v ≡ Some f → rate_at First v ≡ Some f
 rate-kept v f e = said_same (timings_at v) f e
 
 -- and then all findings are the same
-pub rate-same : (v : View) (f : Finding) → rate_at Second v ≡ One f → lint_at First v ≡ lint_at Second v
+pub rate-same : (v : View) (f : Finding) → rate_at Second v ≡ Some f → lint_at First v ≡ lint_at Second v
 unfolding lint_at
-rate-same v f e = ap (λ (x : Found). cat (others v ++ (x ∷ []))) (rate-kept v f e ∙ sym e)
+rate-same v f e = ap (λ (x : Option Finding). cat (others v ++ (x ∷ []))) (rate-kept v f e ∙ sym e)
 
 -- at most one finding more, and that of a rate on the second ladder alone
 pub record Beyond (rate : ℕ) : Type 0 where
@@ -127,13 +101,10 @@ pub record Beyond (rate : ℕ) : Type 0 where
   pub second : on_ladder Second rate ≡ true
 
 one-rate : (rate : ℕ) → (to_list (only_first rate) ≡ []) ⊎ (Beyond rate × (to_list (only_first rate) ≡ non_standard_data_rate rate ∷ []))
-one-rate rate = by-test (on_ladder First rate)
-    (λ f. inl (rw f))
-    (λ f. by-test (on_ladder Second rate) (λ s. inr (record { not_first = f; second = s }, rw (f, s))) (λ s. inl (rw (f, s))))
+one-rate rate = grind arith
 
-one-said : (s : Said Timings) → (to_list (of_rate only_first s) ≡ []) ⊎ ((rate : ℕ) × (Beyond rate × (to_list (of_rate only_first s) ≡ non_standard_data_rate rate ∷ [])))
-one-said (gives t) = ⊎_elim (λ e. inl e) (λ e. inr (rate_of t.tckavg_min.0, e)) (one-rate (rate_of t.tckavg_min.0))
-one-said (refuses t) = inl refl
+one-said : (s : Answer Timings) → (to_list (of_rate only_first s) ≡ []) ⊎ ((rate : ℕ) × (Beyond rate × (to_list (of_rate only_first s) ≡ non_standard_data_rate rate ∷ [])))
+one-said s = grind (arith, one-rate)
 
 pub one_more : (v : View) → (lint_at First v ≡ lint_at Second v) ⊎ ((rate : ℕ) × (Beyond rate × (lint_at First v ≡ lint_at Second v ++ (non_standard_data_rate rate ∷ []))))
 one_more v = ⊎_elim

@@ -1,14 +1,14 @@
 -- The ladder of each edition is a list of rates: nine, and document 01's fifteen. Nothing is promised in terms of the lists. Assumes nothing.
+use Rattle.std.specs.Prelude.{Some, None}
 use Prim.Native.Nat.{ℕ, zero, suc, ◌+◌, ◌-◌, ◌*◌, ◌/◌, ◌%◌, ◌<◌}
 use mathlib.Core.Path.{◌≡◌, refl, sym, ◌∙◌, fun_ext}
 use mathlib.Core.List.{List, [], ◌∷◌}
 use mathlib.Core.Bool.{Bool, true, false, true≢false}
 use native.Mathlib.Omega.{arith}
 use lib.Dec.{eqb, leb}
-use borrow.Author.Tests.{leb-true, eqb-true, le-leb, eq-eqb, ne_eqb}
+use borrow.Author.Tests.{leb-true, eqb-true, eq-eqb, ne_eqb}
 use Rattle.reading.specs.Pick.{pick, and}
 use Rattle.reading.proofs.Picked.{either, by-test, both}
-use Rattle.findings.specs.declared.Found.TheVariants.{Nothing, One}
 use Rattle.rules.specs.declared.Edition.{Edition}
 use Rattle.rules.specs.declared.Edition.TheVariants.{First, Second}
 use Rattle.rules.specs.Table.{non_standard_data_rate}
@@ -58,7 +58,7 @@ ends Second = refl
 -- each step up from 3200 is on the ladder
 rising : (e : Edition) (rate k : ℕ) → k < rungs e → 3200 + 400 * k ≡ rate → on_ladder e rate ≡ true
 unfolding on_ladder
-rising e rate k h m = rw (le-leb 3200 rate (omega arith), le-leb rate (top e) (omega (arith, ends e)), eq-eqb (rate % 400) 0 (omega arith))
+rising e rate k h m = grind arith
 
 -- and what is on the ladder is one of the steps
 among : (e : Edition) (rate : ℕ) → on_ladder e rate ≡ true → is_in rate (steps 3200 (rungs e)) ≡ true
@@ -83,5 +83,5 @@ pub ladder-is-list : (e : Edition) → on_ladder e ≡ (λ rate. is_in rate (rat
 ladder-is-list e = fun_ext (listed e)
 
 -- and the rule on the rate, which alone asks for the ladder, is the one that goes by the list
-pub rate-by-list : (e : Edition) (rate : ℕ) → standard_rate e rate ≡ pick (eqb rate 0) Nothing (pick (is_in rate (rates e)) Nothing (One (non_standard_data_rate rate)))
+pub rate-by-list : (e : Edition) (rate : ℕ) → standard_rate e rate ≡ pick (eqb rate 0) None (pick (is_in rate (rates e)) None (Some (non_standard_data_rate rate)))
 rate-by-list e rate = rw (listed e rate)

@@ -1,10 +1,11 @@
 pub mod Ladder
 pub mod Editions
-pub mod Scan
-pub mod Gathered
 pub mod Filled
 pub mod Never
 pub mod Reach
 pub mod Inside
 pub mod Benched
+pub mod Scan
+pub mod Parts
+pub mod Lanes
 pub mod Once

@@ -1,5 +1,6 @@
 -- The package rule cannot occur on a decoded image: package and dies come from one row of the decoder's table. So of the sixteen rules
 -- at most fifteen speak. A rated profile has five rules. Assumes nothing.
+use Rattle.std.specs.Prelude.{Option, None, Ok, Err}
 use Prim.Native.Nat.{ℕ, ◌+◌, ◌/◌, ◌%◌, ◌≤◌}
 use mathlib.Core.Path.{◌≡◌, refl, subst}
 use mathlib.Core.List.{List, [], ◌∷◌, ◌++◌}
@@ -7,16 +8,15 @@ use native.Mathlib.Omega.{arith}
 use lib.Dec.{eqb}
 use lib.ListN.{length, take, drop, length-append}
 use Rattle.reading.specs.View.{View, view}
-use Rattle.reading.specs.Said.{Said, gives, refuses, onward}
+use Rattle.reading.specs.Refusal.{Answer, onward}
 use Rattle.reading.specs.Ranges.{missing_at}
 use Rattle.reading.proofs.Picked.{either}
 use Rattle.reading.proofs.Reach.{by-missing}
-use Rattle.findings.specs.declared.Found.{Found}
-use Rattle.findings.specs.declared.Found.TheVariants.{Nothing}
 use Rattle.findings.specs.Hold.{cat}
 use Rattle.findings.proofs.Laws.{length-cat, cat-append}
+use Rattle.findings.specs.declared.Finding.{Finding}
 use Rattle.decoders.specs.Codes.{meant, package_table, bus_width_table, size_of, device_of, module_of, density_of, package_of, io_width_of, bank_groups_of, banks_of, bus_width_of, channels_of}
-use Rattle.decoders.specs.Identity.{identity_ranges, identity_at}
+use Rattle.decoders.specs.Identity.{identity_ranges, identity_at, identity_of}
 use Rattle.decoders.specs.declared.identity.IdentityAndBase.{IdentityAndBase}
 use Rattle.decoders.specs.declared.identity.PackageType.{PackageType}
 use Rattle.rules.specs.Rules.{coherence, each, rated_rules}
@@ -25,20 +25,20 @@ use Rattle.rules.specs.declared.RatedTimings.{RatedTimings}
 use Rattle.rules.specs.declared.Edition.{Edition}
 
 -- P holds of the value, where one is given
-abbrev pub OfGiven : {A : Type 0} → Said A → (A → Type 0) → Type 0
-OfGiven (gives a) P = P a
-OfGiven (refuses t) P = Unit {0}
+abbrev pub OfGiven : {A : Type 0} → Answer A → (A → Type 0) → Type 0
+OfGiven (Ok a) P = P a
+OfGiven (Err t) P = Unit {0}
 
-given : {A : Type 0} (P : A → Type 0) {s : Said A} {a : A} → s ≡ gives a → OfGiven s P → P a
+given : {A : Type 0} (P : A → Type 0) {s : Answer A} {a : A} → s ≡ Ok a → OfGiven s P → P a
 given P e h = subst (λ t. OfGiven t P) e h
 
 -- a chain goes on with the value that the step gives, and a refusal ends it
-through : {A B : Type 0} (P : B → Type 0) (s : Said A) (go : A → Said B) → ((a : A) → s ≡ gives a → OfGiven (go a) P) → OfGiven (onward refuses s go) P
-through P (gives a) go h = h a refl
-through P (refuses t) go h = tt
+through : {A B : Type 0} (P : B → Type 0) (s : Answer A) (go : A → Answer B) → ((a : A) → s ≡ Ok a → OfGiven (go a) P) → OfGiven (onward Err s go) P
+through P (Ok a) go h = h a refl
+through P (Err t) go h = tt
 
 abbrev Coherent : PackageType → ℕ → Type 0
-Coherent kind dies = coherence kind dies ≡ Nothing
+Coherent kind dies = coherence kind dies ≡ None
 
 -- what holds of all that a table's codes stand for, holds of what it gives
 abbrev AllOf : {A : Type 0} → (A → Type 0) → List (ℕ × A) → Type 0
@@ -82,16 +82,20 @@ decoded v =
     }))))))))))))
     (λ i e. rw e tt)
 
-silent : (said : Said IdentityAndBase) → OfGiven said Decoded → on_given (λ d. coherence d.package_type d.die_count) said ≡ Nothing
-silent (gives d) h = h.coherent
-silent (refuses t) h = refl
+silent : (said : Answer IdentityAndBase) → OfGiven said Decoded → on_given (λ d. coherence d.package_type d.die_count) said ≡ None
+silent said h = grind arith
 
-pub never : (v : View) → on_given (λ d. coherence d.package_type d.die_count) (identity_at v) ≡ Nothing
+pub never : (v : View) → on_given (λ d. coherence d.package_type d.die_count) (identity_at v) ≡ None
 never v = silent (identity_at v) (decoded v)
 
+-- what a caller of the decoder has of it
+pub coherent : (s : List ℕ) (d : IdentityAndBase) → identity_of s ≡ Ok d → coherence d.package_type d.die_count ≡ None
+unfolding identity_of
+coherent s d e = (subst (λ t. OfGiven t Decoded) e (decoded (view s))).coherent
+
 -- a row of answers with a silent one in it gives fewer findings than it has answers
-fewer : (xs ys : List Found) (x : Found) → x ≡ Nothing → length (cat (xs ++ (x ∷ ys))) ≤ length xs + length ys
-fewer xs ys x e = rw (e, cat-append xs (Nothing ∷ ys), length-append) (omega (arith, length-cat xs, length-cat ys))
+fewer : (xs ys : List (Option Finding)) (x : Option Finding) → x ≡ None → length (cat (xs ++ (x ∷ ys))) ≤ length xs + length ys
+fewer xs ys x e = rw (e, cat-append xs (None ∷ ys), length-append) (omega (arith, length-cat xs, length-cat ys))
 
 -- eight rules stand before the package rule and seven behind it
 pub fits : (e : Edition) (v : View) → length (cat (each (lint_rules e) v)) ≤ 15

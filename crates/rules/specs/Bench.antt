@@ -1,7 +1,9 @@
 -- Document 01, "Bench examples": the lines marked P, as one list, and what each says. Assumes nothing.
-use Rattle.std.specs.Prelude.{ℕ, ◌+◌, ◌/◌, ◌%◌, ◌≡◌, List, [], ◌∷◌, Bool, true, false}
+use Rattle.std.specs.Prelude.{ℕ, ◌+◌, ◌/◌, ◌%◌, ◌≡◌, List, [], ◌∷◌, Bool, true, false, Ok, Err}
 use Rattle.reading.specs.View.{View, view}
-use Rattle.reading.specs.Said.{Said, gives, refuses, refused, onward}
+use Rattle.reading.specs.Refusal.{Answer, onward}
+use Rattle.reading.specs.declared.Refusal.{Refusal}
+use Rattle.reading.specs.declared.Refusal.TheVariants.{UnknownEnum}
 use Rattle.reading.specs.Made.{Image, bytes_of}
 use Rattle.findings.specs.declared.Finding.{Finding}
 use Rattle.decoders.specs.Cas.{cas_of, in_set}
@@ -20,8 +22,8 @@ use Rattle.rules.specs.Lint.{lint_at}
 pub data Line : Type 1 where
   -- the image decodes, and a field of its identity is so
   field : {A : Type 0} → Image → (IdentityAndBase → A) → A → Line
-  -- the image's identity is refused, by a number with two values
-  refusal : Image → (number first second : ℕ) → Line
+  -- the image's identity is refused so
+  refusal : Image → Refusal → Line
   -- the data rate of a cycle time
   rate : (tck rate : ℕ) → Line
   -- whether a CL is in the set of five bytes
@@ -30,13 +32,13 @@ pub data Line : Type 1 where
   finds : Image → List Finding → Line
 
 -- a field alone of what a decoder said
-abbrev pub only : {A B : Type 0} → (A → B) → Said A → Said B
-only f said = onward refuses said (λ a. gives (f a))
+abbrev pub only : {A B : Type 0} → (A → B) → Answer A → Answer B
+only f said = onward Err said (λ a. Ok (f a))
 
 -- a line holds of images as they are seen
 abbrev pub holds : (Image → View) → Line → Type 0
-holds see (field image f value) = only f (identity_at (see image)) ≡ gives value
-holds see (refusal image number first second) = identity_at (see image) ≡ refused number first second
+holds see (field image f value) = only f (identity_at (see image)) ≡ Ok value
+holds see (refusal image why) = identity_at (see image) ≡ Err why
 holds see (rate tck mts) = rate_of tck ≡ mts
 holds see (cas b0 b1 b2 b3 b4 cl within) = in_set (cas_of b0 b1 b2 b3 b4) cl ≡ within
 holds see (finds image findings) = lint_at Second (see image) ≡ findings
@@ -74,15 +76,15 @@ bench =
     -- P byte 3 = 0x82: UDIMM, hybrid. P 0x09: refused.
     field (with 3 0x82) (λ d. d.module_type) Udimm
     ∷ field (with 3 0x82) (λ d. d.hybrid) true
-    ∷ refusal (with 3 0x09) 3 2 9
+    ∷ refusal (with 3 0x09) (UnknownEnum 2 9)
     -- P byte 4 = 0xA4: 16 Gb, 3DS, 16 dies. P 0xC1: refused, field 4, code 6.
     ∷ field (with 4 0xA4) (λ d. d.density_per_die) Gb16
     ∷ field (with 4 0xA4) (λ d. d.package_type) ThreeDs
     ∷ field (with 4 0xA4) (λ d. d.die_count) 16
-    ∷ refusal (with 4 0xC1) 3 4 6
+    ∷ refusal (with 4 0xC1) (UnknownEnum 4 6)
     -- P byte 0 = 0x30: 1024. P 0x80: refused, code 0.
     ∷ field (with 0 0x30) (λ d. d.spd_bytes_total) 1024
-    ∷ refusal (with 0 0x80) 3 1 0
+    ∷ refusal (with 0 0x80) (UnknownEnum 1 0)
     -- P byte 5 = 0xFF: 47 rows, 17 columns.
     ∷ field (with 5 0xFF) (λ d. d.row_address_bits) 47
     ∷ field (with 5 0xFF) (λ d. d.column_address_bits) 17

@@ -3,6 +3,6 @@ pub mod Regions
 pub mod Rules
 pub mod Lint
 pub mod Lanes
-pub mod Gathering
-pub mod Word
 pub mod Bench
+pub mod Scan
+pub mod Parts

@@ -1,68 +1,152 @@
-// How findings are gathered: as numbers in two flat lists that are lent and so never copied, and made into records at the end.
-ghost use Rattle.std.specs.Prelude.{◌≡◌, ◌+◌, ◌<◌, ◌≤◌, length};
-ghost use Rattle.rules.specs.Gathering.{lanes, severity_of, noted, finding_at, records_of};
+//! The findings of an image, gathered rule by rule.
+ghost use Rattle.std.specs.Prelude.{◌≡◌, ◌+◌, ◌<◌, ◌≤◌, [], ◌++◌, None, Ok, length};
+ghost use Rattle.rules.specs.Parts.{of_answer};
+ghost use Rattle.decoders.specs.declared.identity.IdentityAndBase.{IdentityAndBase};
+ghost use Rattle.reading.specs.View.{view};
+ghost use Rattle.findings.specs.Hold.{holding, to_list, cat};
+ghost use Rattle.rules.specs.Regions.{region_rules};
+ghost use Rattle.rules.specs.Rules.{coherence, identity_rules, timing_rules, rated_rules, each};
 
-use findings::{Finding, Findings, Found, Severity};
+use crate::regions::{REGIONS, check_reserved_region};
+use crate::timing::{
+    check_cas_latency, check_clock_multiple, check_ordering, check_standard_rate,
+    check_trc_identity,
+};
+use crate::{
+    ClockTimingParam, Edition, RatedTimings, TimingOrder, check_capacity, check_package_coherence,
+};
+use decoders::identity::IdentityAndBase;
+use decoders::timing::Timings;
+use findings::{Finding, Findings, MOST};
+use reading::Refusal;
+use std::marker::Model;
 
-// Puts a rule's finding, if it has one, behind those that are there: three small numbers and three large ones in two flat
-// arrays, which are lent and so never copied. The answer is the new count.
-pub(crate) fn note(heads: &mut [u8], numbers: &mut [u32], n: usize, found: Found) -> usize
-    requires { (45 ≤ length heads.old) × (45 ≤ length numbers.old) }
-    ensures { lanes heads.new numbers.new result ≡ noted (lanes heads.old numbers.old n) found }
-{
-    match found {
-        Found::Nothing => n,
-        Found::One(f) => {
-            if n < 15 {
-                let severity = f.severity;
-                heads[3 * n] = f.code;
-                heads[3 * n + 1] = severity.number();
-                heads[3 * n + 2] = f.sub;
-                numbers[3 * n] = f.first;
-                numbers[3 * n + 1] = f.second;
-                numbers[3 * n + 2] = f.third;
-                return n + 1;
-            }
-            n
+/// A list of at most fifteen findings. It is lent from rule to rule, and so never copied.
+// Kept: places with a count beside them: no heap in the library.
+#[derive(Drop)]
+pub struct Gathered {
+    items: [Finding; MOST],
+    count: usize,
+}
+
+impl Model for Gathered {
+    ghost use Rattle.std.specs.Prelude.{List, ◌≤◌, take};
+    ghost use Rattle.findings.specs.declared.Finding.{Finding};
+
+    ghost Value = { List Finding };
+
+    ghost view = { λ f. take f.count f.items };
+
+    ghost invariant = { λ f. f.count ≤ 15 };
+}
+
+impl Gathered {
+    /// No finding.
+    pub fn new() -> Self
+        ensures { result ≡ [] }
+    {
+        Gathered {
+            items: findings::blanks(),
+            count: 0,
         }
     }
-}
 
-fn severity_of(number: u8) -> Severity
-    ensures { result ≡ severity_of number }
-{
-    match number {
-        0 => Severity::Error,
-        1 => Severity::Warning,
-        _ => Severity::Info,
+    /// The findings, in order.
+    pub fn as_slice(&self) -> &[Finding]
+        ensures value { result.now ≡ self.now }
+        ensures at_most_fifteen { length self.now ≤ 15 }
+    {
+        &self.items[..self.count]
     }
-}
 
-// The findings as records.
-pub(crate) fn records(heads: &[u8], numbers: &[u32], n: usize) -> Findings
-    requires { (45 ≤ length heads.now) × (45 ≤ length numbers.now) }
-    ensures { result ≡ records_of (lanes heads.now numbers.now n) }
-{
-    let count = findings::kept(n);
-    let mut items = findings::blanks();
-    let mut i: usize = 0;
-    while i < count {
-        items[i] = record_at(heads, numbers, i);
-        i += 1;
+    /// The same by value: the places past them are blank.
+    #[tactic(auto, using(findings::proofs::Laws::blanks_filled), unfolding(findings::specs::Hold::holding))]
+    pub fn by_value(&self) -> Findings
+        ensures { result ≡ holding self.now }
+    {
+        let found = self.as_slice();
+        let count = found.len();
+        let mut items = findings::blanks();
+        items[..count].copy_from_slice(found);
+        Findings { items, count }
     }
-    Findings { items, count }
-}
 
-fn record_at(heads: &[u8], numbers: &[u32], i: usize) -> Finding
-    requires { (i < 15) × (45 ≤ length heads.now) × (45 ≤ length numbers.now) }
-    ensures { result ≡ finding_at heads.now numbers.now i }
-{
-    Finding {
-        code: heads[3 * i],
-        severity: severity_of(heads[3 * i + 1]),
-        sub: heads[3 * i + 2],
-        first: numbers[3 * i],
-        second: numbers[3 * i + 1],
-        third: numbers[3 * i + 2],
+    // No finding again.
+    pub(crate) fn clear(&mut self)
+        ensures { self.new ≡ [] }
+    {
+        self.count = 0;
+    }
+
+    // What the seven rules on the reserved regions find.
+    pub(crate) fn check_regions(&mut self, image: &[u8])
+        requires { length self.old ≤ 8 }
+        ensures found { self.new ≡ self.old ++ cat (each region_rules (view image.now)) }
+        ensures room { length self.new ≤ length self.old + 7 }
+    {
+        for region in REGIONS {
+            self.note(check_reserved_region(image, region));
+        }
+    }
+
+    // What the two rules on an identity record find, where there is one.
+    pub(crate) fn check_identity(&mut self, identity: &Result<IdentityAndBase, Refusal>)
+        requires room { length self.old ≤ 13 }
+        requires coherent { (d : IdentityAndBase) → identity.now ≡ Ok d → coherence d.package_type d.die_count ≡ None }
+        ensures found { self.new ≡ self.old ++ of_answer identity_rules identity.now }
+        ensures room { length self.new ≤ length self.old + 1 }
+    {
+        if let Ok(identity) = identity {
+            self.note(check_capacity(identity));
+            self.note(check_package_coherence(identity.package_type, identity.die_count));
+        }
+    }
+
+    // What the seven rules on a timing record find, where there is one.
+    pub(crate) fn check_base_timings(
+        &mut self,
+        timings: &Result<Timings, Refusal>,
+        edition: Edition,
+    )
+        requires { length self.old ≤ 8 }
+        ensures found { self.new ≡ self.old ++ of_answer (timing_rules edition) timings.now }
+        ensures room { length self.new ≤ length self.old + 7 }
+    {
+        if let Ok(t) = timings {
+            let tck = t.tckavg_min;
+            self.note(check_trc_identity(t.trc, t.tras, t.trp));
+            self.note(check_ordering(TimingOrder::RasGeRcd, t.tras, t.trcd));
+            self.note(check_ordering(TimingOrder::RcGeRas, t.trc, t.tras));
+            self.note(check_cas_latency(t.taa, tck, Some(t.supported_cas_latencies)));
+            self.note(check_clock_multiple(ClockTimingParam::Trcd, t.trcd, tck));
+            self.note(check_clock_multiple(ClockTimingParam::Trp, t.trp, tck));
+            self.note(check_standard_rate(t.base_data_rate_mt_s(), edition));
+        }
+    }
+
+    // What the five rules on a rated profile find.
+    pub(crate) fn check_rated(&mut self, r: RatedTimings, edition: Edition)
+        requires { length self.old ≤ 10 }
+        ensures found { self.new ≡ self.old ++ cat (each (rated_rules edition) r) }
+        ensures room { length self.new ≤ length self.old + 5 }
+    {
+        let tck = r.cycle_time;
+        self.note(check_ordering(TimingOrder::RasGeRcd, r.tras, r.trcd));
+        self.note(check_cas_latency(r.taa, tck, None));
+        self.note(check_clock_multiple(ClockTimingParam::Trcd, r.trcd, tck));
+        self.note(check_clock_multiple(ClockTimingParam::Trp, r.trp, tck));
+        self.note(check_standard_rate(r.data_rate_mt_s, edition));
+    }
+
+    // One more, where a rule found it.
+    fn note(&mut self, found: Option<Finding>)
+        requires { length self.old < 15 }
+        ensures found { self.new ≡ self.old ++ to_list found }
+        ensures room { length self.new ≤ length self.old + 1 }
+    {
+        if let Some(finding) = found {
+            self.items[self.count] = finding;
+            self.count += 1;
+        }
     }
 }

@@ -1,5 +1,6 @@
-// The rules and the linter. A rule answers one finding or none; the findings of an image come in document 01's order.
-// The linter hands them out as records by value, as numbers in two lent lists, or as records in a lent list.
+//! The rules and the linter. A rule answers one finding or none; the findings of an image come in document 01's order.
+//! The linter hands them out as a list that is lent from rule to rule, as records by value, as numbers in two lent lists, or as records in a
+//! lent list.
 #![tactic(auto)]
 
 ghost use Rattle.std.specs.Prelude.{◌≡◌, ◌<◌, ◌≤◌, length};
@@ -7,28 +8,29 @@ ghost use Rattle.reading.specs.Lent.{laid, listed};
 ghost use Rattle.findings.specs.Hold.{holding};
 ghost use Rattle.rules.specs.Table.{order_sub, clock_sub};
 ghost use Rattle.rules.specs.Rules.{device_count, capacity, coherence, top};
-ghost use Rattle.rules.specs.Lint.{edition_said, edition_of, lint_said, lint_of, replied, listing_said, listing_of, lint_answer_said, lint_answer_of, findings_of, rated_findings, rated_said, rated_replied, rated_of};
+ghost use Rattle.rules.specs.Lint.{edition_of, lint_of, replied, listing_of, lint_answer_of, findings_of, rated_findings, rated_of};
 ghost use Rattle.rules.specs.Lanes.{small_of, numbers_of, flat, lint_numbers_of, heads_after, numbers_after};
 
-use decoders::identity::{IdentityAndBase, IdentityAnswer, PackageType};
-use decoders::timing::{CasLatencies, Picoseconds, TimingsAnswer};
-use findings::{Finding, Findings, Found};
-use gather::{note, records};
+use decoders::identity::{IdentityAndBase, PackageType};
+use decoders::timing::{Picoseconds, Timings};
+use findings::{Finding, Findings, MOST};
+pub use gather::Gathered;
 use reading::Refusal;
-use regions::check_reserved_regions;
 use table::{non_integer_device_count, package_die_count_mismatch};
-use timing::{
-    check_base_timings, check_cas_latency, check_clock_multiple, check_ordering,
-    check_standard_rate,
-};
 
 mod gather;
 mod regions;
 mod table;
 pub mod timing;
 
-// The edition of JESD79-5 whose ladder a data rate is held to.
-#[derive(Clone, Copy)]
+// A finding is three small numbers in the one list and three large ones in the other.
+const MOST_NUMBERS: usize = 3 * MOST;
+
+// A rated profile has five rules.
+const MOST_RATED: usize = 5;
+
+/// The edition of JESD79-5 whose ladder a data rate is held to.
+#[derive(Clone, Copy, Debug, PartialEq, Eq)]
 pub enum Edition {
     First,
     Second,
@@ -46,30 +48,35 @@ impl Edition {
     }
 }
 
-// An edition, or why a number is none.
-#[derive(Clone, Copy)]
-pub enum EditionAnswer {
-    Chosen(Edition),
-    Refused(Refusal),
-}
+/// Only here does a number become an edition, so a call that takes an edition need not refuse one.
+impl TryFrom<u32> for Edition {
+    type Error = Refusal;
 
-// The edition of a number. Only here does a number become an edition, so a call that takes an edition need not refuse one.
-pub fn edition_of(number: u32) -> EditionAnswer
-    ensures { edition_said result ≡ edition_of number }
-{
-    match number {
-        1 => EditionAnswer::Chosen(Edition::First),
-        2 => EditionAnswer::Chosen(Edition::Second),
-        _ => EditionAnswer::Refused(Refusal::UnknownEdition),
+    ghost try_from_gives = { λ number answer. answer ≡ edition_of number };
+
+    fn try_from(number: u32) -> Result<Self, Refusal> {
+        match number {
+            1 => Ok(Edition::First),
+            2 => Ok(Edition::Second),
+            _ => Err(Refusal::UnknownEdition),
+        }
     }
 }
 
-// A timing ordering that must hold; it chooses the finding's sub.
-#[derive(Clone, Copy)]
+/// The edition of a number.
+// Kept: a public function beside `Edition::try_from`, since callers and their proofs go by its name and its contract.
+pub fn edition_of(number: u32) -> Result<Edition, Refusal>
+    ensures { result ≡ edition_of number }
+{
+    number.try_into()
+}
+
+/// A timing ordering that must hold; it chooses the finding's sub.
+#[derive(Clone, Copy, Debug, PartialEq, Eq)]
 pub enum TimingOrder {
-    // tRAS must be at least tRCD.
+    /// tRAS must be at least tRCD.
     RasGeRcd,
-    // tRC must be at least tRAS.
+    /// tRC must be at least tRAS.
     RcGeRas,
 }
 
@@ -85,8 +92,8 @@ impl TimingOrder {
     }
 }
 
-// A timing that must be a whole multiple of the cycle time; it chooses the finding's sub.
-#[derive(Clone, Copy)]
+/// A timing that must be a whole multiple of the cycle time; it chooses the finding's sub.
+#[derive(Clone, Copy, Debug, PartialEq, Eq)]
 pub enum ClockTimingParam {
     Trcd,
     Trp,
@@ -104,15 +111,8 @@ impl ClockTimingParam {
     }
 }
 
-// The latencies that a CAS latency is held against, where there is such a set.
-#[derive(Clone, Copy)]
-pub enum SupportedSet {
-    Unknown,
-    Known(CasLatencies),
-}
-
-// The timings of a rated profile, which the caller supplies.
-#[derive(Clone, Copy)]
+/// The timings of a rated profile, which the caller supplies.
+#[derive(Clone, Copy, Debug, PartialEq, Eq)]
 pub struct RatedTimings {
     pub cycle_time: Picoseconds,
     pub taa: Picoseconds,
@@ -122,232 +122,177 @@ pub struct RatedTimings {
     pub data_rate_mt_s: u32,
 }
 
-// What linting an image answers by value. A decoder's refusal stands for its record alone.
-#[derive(Clone, Copy)]
+/// What linting an image answers by value. A decoder's refusal stands for its record alone.
+#[derive(Clone, Copy, Debug, PartialEq, Eq)]
 pub struct Linted {
-    pub identity: IdentityAnswer,
-    pub timings: TimingsAnswer,
+    pub identity: Result<IdentityAndBase, Refusal>,
+    pub timings: Result<Timings, Refusal>,
     pub findings: Findings,
 }
 
-// The same with the findings in a lent list, so many of them.
-#[derive(Clone, Copy)]
+/// The same with the findings in a lent list, so many of them.
+#[derive(Clone, Copy, Debug, PartialEq, Eq)]
 pub struct LintRecords {
-    pub identity: IdentityAnswer,
-    pub timings: TimingsAnswer,
+    pub identity: Result<IdentityAndBase, Refusal>,
+    pub timings: Result<Timings, Refusal>,
     pub count: usize,
 }
 
-#[derive(Clone, Copy)]
-pub enum LintAnswer {
-    Listed(LintRecords),
-    Refused(Refusal),
-}
-
-#[derive(Clone, Copy)]
-pub enum RatedAnswer {
-    Listed(usize),
-    Refused(Refusal),
-}
-
-// An image's lint by value: both decoders' answers and the findings.
+/// An image's lint by value: both decoders' answers and the findings.
+#[tactic(auto, unfolding(findings::specs::Hold::holding))]
 pub fn lint_image(image: &[u8], edition: Edition) -> Linted
-    ensures { lint_said result ≡ lint_of edition image.now }
+    ensures { result ≡ lint_of edition image.now }
 {
-    let mut heads = [0u8; 45];
-    let mut numbers = [0u32; 45];
-    let linted = run_rules(image, edition, &mut heads, &mut numbers);
-    let identity = linted.identity;
-    let timings = linted.timings;
-    let findings = records(&heads, &numbers, linted.count);
+    let mut found = Gathered::new();
+    let records = lint_into(image, edition, &mut found);
     Linted {
-        identity,
-        timings,
-        findings,
+        identity: records.identity,
+        timings: records.timings,
+        findings: found.by_value(),
     }
 }
 
-// Lint an image into two lent lists of at least forty-five numbers: for each finding its code, severity and sub in the one, its three numbers in the
-// other. No record is made, so this is the way for a caller that only passes the numbers on.
+/// The same with the findings in a list that is lent, which holds them alone afterwards: every rule, in document 01's order. A rule on a record
+/// is silent where its decoder refused.
+#[tactic(auto, using(crate::proofs::Never::coherent, crate::proofs::Parts::in_parts), unfolding(findings::specs::Hold::holding))]
+pub fn lint_into(image: &[u8], edition: Edition, found: &mut Gathered) -> LintRecords
+    ensures answer { result ≡ listing_of edition image.now }
+    ensures later { found.new ≡ findings_of edition image.now }
+{
+    found.clear();
+    found.check_regions(image);
+    let identity = decoders::identity::decode_identity_and_base(image);
+    found.check_identity(&identity);
+    let timings = decoders::timing::decode_timings(image);
+    found.check_base_timings(&timings, edition);
+    LintRecords {
+        identity,
+        timings,
+        count: found.as_slice().len(),
+    }
+}
+
+/// Lints an image into two lent lists of at least forty-five numbers: for each finding its code, severity and sub in the one, its three
+/// numbers in the other.
+// Kept: two lists beside each other are what `lint_numbers` promises.
 #[tactic(auto, unfolding(crate::specs::Lanes::lint_numbers_of, crate::specs::Lanes::heads_after, crate::specs::Lanes::numbers_after))]
 pub fn lint_numbers(
     image: &[u8],
     edition: Edition,
     heads: &mut [u8],
     numbers: &mut [u32],
-) -> LintAnswer
-    ensures { (lint_answer_said result ≡ lint_numbers_of edition image.now heads.old numbers.old) × (heads.new ≡ heads_after edition image.now heads.old numbers.old) × (numbers.new ≡ numbers_after edition image.now heads.old numbers.old) }
+) -> Result<LintRecords, Refusal>
+    ensures answer { result ≡ lint_numbers_of edition image.now heads.old numbers.old }
+    ensures heads { heads.new ≡ heads_after edition image.now heads.old numbers.old }
+    ensures numbers { numbers.new ≡ numbers_after edition image.now heads.old numbers.old }
 {
-    if heads.len() < 45 {
-        return LintAnswer::Refused(Refusal::ListTooShort);
+    if heads.len() < MOST_NUMBERS || numbers.len() < MOST_NUMBERS {
+        return Err(Refusal::ListTooShort);
     }
-    if numbers.len() < 45 {
-        return LintAnswer::Refused(Refusal::ListTooShort);
-    }
-    LintAnswer::Listed(run_rules(image, edition, heads, numbers))
+    let mut found = Gathered::new();
+    let records = lint_into(image, edition, &mut found);
+    lay_numbers(found.as_slice(), heads, numbers);
+    Ok(records)
 }
 
-// Every rule, in document 01's order. A rule on a record is silent where its decoder refused.
-fn run_rules(image: &[u8], edition: Edition, heads: &mut [u8], numbers: &mut [u32]) -> LintRecords
-    requires { (45 ≤ length heads.old) × (45 ≤ length numbers.old) }
-    ensures { (listing_said result ≡ listing_of edition image.now) × (heads.new ≡ laid (flat small_of (findings_of edition image.now)) heads.old) × (numbers.new ≡ laid (flat numbers_of (findings_of edition image.now)) numbers.old) }
+// The numbers of findings over the front of two lists that have room for them.
+// Kept: heads and numbers beside each other, as `lint_numbers` takes them.
+// Kept: places are reckoned from the count of findings, since std says nothing of what a slice ends as behind chunks_exact_mut.
+fn lay_numbers(found: &[Finding], heads: &mut [u8], numbers: &mut [u32])
+    requires { (length found.now ≤ 15) × (45 ≤ length heads.old) × (45 ≤ length numbers.old) }
+    ensures heads { heads.new ≡ laid (flat small_of found.now) heads.old }
+    ensures numbers { numbers.new ≡ laid (flat numbers_of found.now) numbers.old }
 {
-    let mut n = check_reserved_regions(image, heads, numbers);
-    let identity = decoders::identity::decode_identity_and_base(image);
-    if let IdentityAnswer::Decoded(d) = identity {
-        n = note(heads, numbers, n, check_capacity(d));
-        let package_type = d.package_type;
-        let x = check_package_coherence(package_type, d.die_count);
-        n = note(heads, numbers, n, x);
-    }
-    let timings = decoders::timing::decode_timings(image);
-    if let TimingsAnswer::Decoded(t) = timings {
-        n = check_base_timings(t, edition, heads, numbers, n);
-    }
-    LintRecords {
-        identity,
-        timings,
-        count: n,
+    for (i, f) in found.iter().enumerate() {
+        heads[3 * i..3 * i + 3].copy_from_slice(&[f.code, f.severity.number(), f.sub]);
+        numbers[3 * i..3 * i + 3].copy_from_slice(&[f.first, f.second, f.third]);
     }
 }
 
-// Lint an image into a lent list of at least fifteen places: the first places hold the findings, the others stay.
-#[tactic(auto, unfolding(crate::specs::Lint::lint_answer_of))]
-pub fn lint(image: &[u8], edition: Edition, list: &mut [Finding]) -> LintAnswer
-    ensures { (lint_answer_said result ≡ lint_answer_of edition image.now list.old) × (list.new ≡ listed 15 (findings_of edition image.now) list.old) }
+/// Lints an image into a lent list of at least fifteen places: the first places hold the findings, the others stay.
+#[tactic(auto, unfolding(crate::specs::Lint::lint_answer_of, findings::specs::Hold::holding))]
+pub fn lint(image: &[u8], edition: Edition, list: &mut [Finding]) -> Result<LintRecords, Refusal>
+    ensures answer { result ≡ lint_answer_of edition image.now list.old }
+    ensures later { list.new ≡ listed 15 (findings_of edition image.now) list.old }
 {
-    let linted = lint_image(image, edition);
-    let len = list.len();
-    findings::fill(list, 15, linted.findings);
-    lint_reply(len, linted)
+    if list.len() < MOST {
+        return Err(Refusal::ListTooShort);
+    }
+    let mut found = Gathered::new();
+    let records = lint_into(image, edition, &mut found);
+    let found = found.as_slice();
+    list[..found.len()].copy_from_slice(found);
+    Ok(records)
 }
 
-// What `lint` answers of a list of so many places.
-pub fn lint_reply(len: usize, linted: Linted) -> LintAnswer
-    ensures { lint_answer_said result ≡ replied len (lint_said linted) }
+/// What `lint` answers of a list of so many places.
+// Kept: it is public, and hands on the count that it is given, of whatever lint.
+pub fn lint_reply(len: usize, linted: Linted) -> Result<LintRecords, Refusal>
+    ensures { result ≡ replied len linted }
 {
-    if len < 15 {
-        return LintAnswer::Refused(Refusal::ListTooShort);
+    if len < MOST {
+        return Err(Refusal::ListTooShort);
     }
-    let identity = linted.identity;
-    let timings = linted.timings;
-    LintAnswer::Listed(LintRecords {
-        identity,
-        timings,
+    Ok(LintRecords {
+        identity: linted.identity,
+        timings: linted.timings,
         count: linted.findings.count,
     })
 }
 
 // The bus width must be a positive multiple of the I/O width, or the device count per rank is no whole number.
-fn check_capacity(identity: IdentityAndBase) -> Found
-    ensures { result ≡ capacity identity }
+fn check_capacity(identity: &IdentityAndBase) -> Option<Finding>
+    ensures { result ≡ capacity identity.now }
 {
-    let io_width = identity.io_width;
-    check_device_count(identity.primary_bus_width_bits, io_width.bits())
+    check_device_count(identity.primary_bus_width_bits, identity.io_width.bits())
 }
 
-// The same of plain widths, of whatever record.
-pub fn check_device_count(bus_width_bits: u16, io_width_bits: u16) -> Found
+/// The same of plain widths, of whatever record.
+pub fn check_device_count(bus_width_bits: u16, io_width_bits: u16) -> Option<Finding>
     ensures { result ≡ device_count bus_width_bits io_width_bits }
 {
-    if io_width_bits == 0 {
-        return Found::One(non_integer_device_count(bus_width_bits, io_width_bits));
-    }
-    if bus_width_bits == 0 {
-        return Found::One(non_integer_device_count(bus_width_bits, io_width_bits));
-    }
-    if bus_width_bits % io_width_bits == 0 {
-        return Found::Nothing;
-    }
-    Found::One(non_integer_device_count(bus_width_bits, io_width_bits))
+    (io_width_bits == 0 || bus_width_bits == 0 || bus_width_bits % io_width_bits != 0).then(
+        || non_integer_device_count(bus_width_bits, io_width_bits),
+    )
 }
 
-// The rules that apply to a rated profile, into a lent list of at least five places.
+/// The rules that apply to a rated profile, into a lent list of at least five places.
 #[tactic(auto, unfolding(crate::specs::Lint::rated_of, crate::specs::Lint::rated_findings))]
-pub fn check_rated_profile(r: RatedTimings, edition: Edition, list: &mut [Finding]) -> RatedAnswer
-    ensures { (rated_said result ≡ rated_of edition r list.old) × (list.new ≡ listed 5 (rated_findings edition r) list.old) }
+pub fn check_rated_profile(
+    r: RatedTimings,
+    edition: Edition,
+    list: &mut [Finding],
+) -> Result<usize, Refusal>
+    ensures answer { result ≡ rated_of edition r list.old }
+    ensures later { list.new ≡ listed 5 (rated_findings edition r) list.old }
 {
-    let found = rated_findings(r, edition);
-    let len = list.len();
-    findings::fill(list, 5, found);
-    rated_reply(len, found.count)
-}
-
-// What `check_rated_profile` answers of a list of so many places.
-fn rated_reply(len: usize, count: usize) -> RatedAnswer
-    ensures { rated_said result ≡ rated_replied len count }
-{
-    if len < 5 {
-        RatedAnswer::Refused(Refusal::ListTooShort)
-    } else {
-        RatedAnswer::Listed(count)
+    if list.len() < MOST_RATED {
+        return Err(Refusal::ListTooShort);
     }
+    let mut found = Gathered::new();
+    found.check_rated(r, edition);
+    let found = found.as_slice();
+    list[..found.len()].copy_from_slice(found);
+    Ok(found.len())
 }
 
-// The findings of a rated profile by value, at most five.
-#[tactic(auto, unfolding(findings::specs::Hold::holding, crate::specs::Lint::rated_findings))]
+/// The findings of a rated profile by value, at most five.
+#[tactic(auto, unfolding(crate::specs::Lint::rated_findings))]
 pub fn rated_findings(r: RatedTimings, edition: Edition) -> Findings
     ensures { result ≡ holding (rated_findings edition r) }
 {
-    let mut heads = [0u8; 45];
-    let mut numbers = [0u32; 45];
-    let mut n: usize = 0;
-    let tck = r.cycle_time;
-    n = note(
-        &mut heads,
-        &mut numbers,
-        n,
-        check_ordering(TimingOrder::RasGeRcd, r.tras, r.trcd),
-    );
-    n = note(
-        &mut heads,
-        &mut numbers,
-        n,
-        check_cas_latency(r.taa, tck, SupportedSet::Unknown),
-    );
-    n = note(
-        &mut heads,
-        &mut numbers,
-        n,
-        check_clock_multiple(ClockTimingParam::Trcd, r.trcd, tck),
-    );
-    n = note(
-        &mut heads,
-        &mut numbers,
-        n,
-        check_clock_multiple(ClockTimingParam::Trp, r.trp, tck),
-    );
-    n = note(
-        &mut heads,
-        &mut numbers,
-        n,
-        check_standard_rate(r.data_rate_mt_s, edition),
-    );
-    records(&heads, &numbers, n)
+    let mut found = Gathered::new();
+    found.check_rated(r, edition);
+    found.by_value()
 }
 
-// One die in a monolithic package, more in the others. No decoded image breaks this; it is asked of any package and die count.
-pub fn check_package_coherence(package_type: PackageType, die_count: u8) -> Found
+/// One die in a monolithic package, more in the others. No decoded image breaks this; it is asked of any package and die count.
+pub fn check_package_coherence(package_type: PackageType, die_count: u8) -> Option<Finding>
     ensures { result ≡ coherence package_type die_count }
 {
-    match package_type {
-        PackageType::Monolithic => {
-            if die_count == 1 {
-                return Found::Nothing;
-            }
-            Found::One(package_die_count_mismatch(package_type, die_count))
-        }
-        PackageType::DualDie => {
-            if 1 < die_count {
-                return Found::Nothing;
-            }
-            Found::One(package_die_count_mismatch(package_type, die_count))
-        }
-        PackageType::ThreeDs => {
-            if 1 < die_count {
-                return Found::Nothing;
-            }
-            Found::One(package_die_count_mismatch(package_type, die_count))
-        }
-    }
+    let coherent = match package_type {
+        PackageType::Monolithic => die_count == 1,
+        PackageType::DualDie | PackageType::ThreeDs => 1 < die_count,
+    };
+    (!coherent).then(|| package_die_count_mismatch(package_type, die_count))
 }

@@ -1,90 +1,73 @@
-// The report program: an image on standard input, its listing on standard output, as document 01's "Printed listing" has it, under edition 2.
-// It asks the linter once and only spells what it answers.
+//! The report program: an image on standard input, its listing on standard output, as document 01's "Printed listing" has it, under edition 2.
+//! It asks the linter once and only spells what it answers.
 #![tactic(auto)]
 
 ghost use Rattle.std.specs.Prelude.{◌≡◌, ◌≤◌, length, take, IfOk, IfSome};
 
-use decoders::identity::IdentityAnswer;
-use decoders::timing::TimingsAnswer;
 use findings::{Finding, Findings, Severity};
 use pieces::LONGEST;
-use printing::{number, refused, text};
+use printing::{refused, text};
 use reading::Refusal;
 use rules::Edition;
 use std::io;
 use std::io::Read;
 
-// How a decoder's line ends.
-fn refused_line(rt: &impl Print, why: Refusal) -> io::Result<()> {
-    refused(rt, why)?;
-    text(rt, b"\n")
-}
-
-fn name(rt: &impl Print, code: u8) -> io::Result<()> {
-    match code {
-        1 => text(rt, b"non-integer-device-count"),
-        2 => text(rt, b"trc-identity-mismatch"),
-        3 => text(rt, b"timing-ordering-violation"),
-        4 => text(rt, b"non-integer-cas-latency"),
-        5 => text(rt, b"cas-latency-not-supported"),
-        6 => text(rt, b"non-integer-clock-timing"),
-        7 => text(rt, b"non-standard-data-rate"),
-        8 => text(rt, b"reserved-bytes-nonzero"),
-        _ => text(rt, b"package-die-count-mismatch"),
+// How a decoder's line goes on behind its name.
+fn decoded<T: Drop>(rt: &impl Print, answer: Result<T, Refusal>) -> io::Result<()> {
+    match answer {
+        Ok(_) => text(rt, b" ok\n"),
+        Err(why) => {
+            refused(rt, why)?;
+            text(rt, b"\n")
+        }
     }
 }
 
-fn severity(rt: &impl Print, s: Severity) -> io::Result<()> {
+// The report table's row of a code: its name, and how many numbers it lists.
+fn row(code: u8) -> (&'static str, usize) {
+    match code {
+        1 => ("non-integer-device-count", 2),
+        2 => ("trc-identity-mismatch", 3),
+        3 => ("timing-ordering-violation", 2),
+        4 => ("non-integer-cas-latency", 2),
+        5 => ("cas-latency-not-supported", 1),
+        6 => ("non-integer-clock-timing", 2),
+        7 => ("non-standard-data-rate", 1),
+        8 => ("reserved-bytes-nonzero", 2),
+        _ => ("package-die-count-mismatch", 1),
+    }
+}
+
+fn severity(s: Severity) -> &'static str {
     match s {
-        Severity::Error => text(rt, b" error"),
-        Severity::Warning => text(rt, b" warning"),
-        Severity::Info => text(rt, b" info"),
-    }
-}
-
-// How many numbers the report table lists for a code.
-fn listed(code: u8) -> usize {
-    match code {
-        2 => 3,
-        5 => 1,
-        7 => 1,
-        9 => 1,
-        _ => 2,
+        Severity::Error => "error",
+        Severity::Warning => "warning",
+        Severity::Info => "info",
     }
 }
 
 // Name, severity, sub if not 0, listed numbers.
 fn line(rt: &impl Print, f: Finding) -> io::Result<()> {
-    let rank = f.severity;
-    name(rt, f.code)?;
-    severity(rt, rank)?;
+    let (name, listed) = row(f.code);
+    print!(rt; "{name} {}", severity(f.severity))?;
     if f.sub != 0 {
-        number(rt, f.sub as usize)?;
+        print!(rt; " {}", f.sub)?;
     }
-    let n = listed(f.code);
-    number(rt, f.first as usize)?;
-    if 1 < n {
-        number(rt, f.second as usize)?;
-    }
-    if 2 < n {
-        number(rt, f.third as usize)?;
+    for n in [f.first, f.second, f.third].iter().take(listed) {
+        print!(rt; " {n}")?;
     }
     text(rt, b"\n")
 }
 
-fn lines(rt: &impl Print, found: Findings) -> io::Result<()> {
-    let items = found.items;
-    let mut i: usize = 0;
-    while i < 15 {
-        if i < found.count {
-            line(rt, items[i])?;
-        }
-        i += 1;
+fn lines(rt: &impl Print, found: &Findings) -> io::Result<()> {
+    for one in found.items.iter().take(found.count) {
+        line(rt, *one)?;
     }
     Ok(())
 }
 
 // Reads until the buffer is full or the input ends: how many bytes.
+// Kept: a rule of the project (no heap): std's call that reads to the end and tells how much it was wants a Vec, so this loops over `read`.
 fn read_full<R: Read>(input: &mut R, buffer: &mut [u8]) -> io::Result<usize>
     ensures bound { IfOk result (λ n. n ≤ length buffer.new) }
     ensures bytes { IfOk result (λ n. IfSome (R.remaining input.old) (λ bytes. take n buffer.new ≡ take (length buffer.old) bytes)) }
@@ -93,7 +76,7 @@ fn read_full<R: Read>(input: &mut R, buffer: &mut [u8]) -> io::Result<usize>
     while got < buffer.len() {
         let n = input.read(&mut buffer[got..])?;
         if n == 0 {
-            return Ok(got);
+            break;
         }
         got += n;
     }
@@ -104,26 +87,14 @@ fn main(rt: HostRuntime) -> io::Result<()> {
     let mut buffer = [0u8; LONGEST + 1];
     let got = read_full(&mut rt.reader(), &mut buffer)?;
     if LONGEST < got {
-        return text(&rt, b"refused 6\n");
+        return println!(rt; "refused {}", Refusal::TooLong);
     }
     let linted = rules::lint_image(&buffer[..got], Edition::Second);
-    text(&rt, b"bytes")?;
-    number(&rt, got)?;
-    text(&rt, b"\nidentity")?;
-    let identity = linted.identity;
-    match identity {
-        IdentityAnswer::Decoded(_) => text(&rt, b" ok\n")?,
-        IdentityAnswer::Refused(why) => refused_line(&rt, why)?,
-    }
+    println!(rt; "bytes {got}")?;
+    text(&rt, b"identity")?;
+    decoded(&rt, linted.identity)?;
     text(&rt, b"timings")?;
-    let timings = linted.timings;
-    match timings {
-        TimingsAnswer::Decoded(_) => text(&rt, b" ok\n")?,
-        TimingsAnswer::Refused(why) => refused_line(&rt, why)?,
-    }
-    let found = linted.findings;
-    lines(&rt, found)?;
-    text(&rt, b"findings")?;
-    number(&rt, found.count)?;
-    text(&rt, b"\n")
+    decoded(&rt, linted.timings)?;
+    lines(&rt, &linted.findings)?;
+    println!(rt; "findings {}", linted.findings.count)
 }

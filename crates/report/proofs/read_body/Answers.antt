@@ -1,45 +1,23 @@
--- `report::read_body` meets its contract: its tests are those of `content_of` from the flags on, in the same order. Assumes nothing.
-use Rattle.std.proofs.Common.{◌≡◌, ◌∙◌, get_or, arith}
-use borrow.Author.Tests.{lt-ltb, le-ltb, ne_eqb}
-use Rattle.reading.specs.declared.Refusal.TheVariants.{ReportMalformed}
-use Rattle.report.specs.Form.{rest_of}
-use Rattle.report.specs.Read.{length_in, content_of}
-use Rattle.report.proofs.Stated.{refusing, accepting, headed, passed}
+-- `report::read_body` meets its contract: each turn reads one finding more. The search leaves it open. Assumes nothing.
+use Rattle.std.proofs.Common.{◌≡◌, ◌<◌, ◌/◌, length, take, arith, length-take-le}
+use Rattle.std.proofs.lemmas.List.{get_or-take}
+use Rattle.report.specs.Form.{finding_size, findings_in}
+use Rattle.report.proofs.Turns.{next-kept, all-kept, length-findings}
 use Rattle.report.proofs.read_body.Goals as goal
 
-pub returns-then-rest-lt3 : goal.returns-then-rest-lt3
-unfolding content_of
-returns-then-rest-lt3 c =
-    let s = c.args.bytes.now in
-    let h = headed s c.requires in
-    c.refused.ensures ∙ refusing s ReportMalformed (rw (h.0, h.1, h.2, h.3, lt-ltb (length_in s) 3 (omega arith)))
-
-pub returns-then-flags-gt3 : goal.returns-then-flags-gt3
-unfolding content_of
-returns-then-flags-gt3 c =
-    let s = c.args.bytes.now in
-    let h = headed s c.requires in
-    c.refused-then-flags-gt3.ensures
-    ∙ refusing s ReportMalformed (rw (h.0, h.1, h.2, h.3, le-ltb (length_in s) 3 (omega arith), lt-ltb 3 (get_or s 3 0) c.if-flags-gt3.true))
-
-pub returns-then-count-gt15 : goal.returns-then-count-gt15
-unfolding content_of
-returns-then-count-gt15 c =
-    let s = c.args.bytes.now in
-    let h = headed s c.requires in
-    c.refused-then-count-gt15.ensures
-    ∙ refusing s ReportMalformed (rw (h.0, h.1, h.2, h.3, le-ltb (length_in s) 3 (omega arith), le-ltb 3 (get_or s 3 0) c.if-flags-gt3.false, lt-ltb 15 (get_or s 4 0) (omega arith)))
-
-pub returns-then-rest-count : goal.returns-then-rest-count
-unfolding content_of
-returns-then-rest-count c =
-    let s = c.args.bytes.now in
-    let h = headed s c.requires in
-    c.refused-then-rest-count.ensures
-    ∙ refusing s ReportMalformed (rw (h.0, h.1, h.2, h.3, le-ltb (length_in s) 3 (omega arith), le-ltb 3 (get_or s 3 0) c.if-flags-gt3.false, le-ltb 15 (get_or s 4 0) (omega arith), ne_eqb (length_in s) (rest_of (get_or s 4 0)) (λ z. omega arith)))
+pub loop-i-preserved : goal.loop-i-preserved
+loop-i-preserved c =
+    let t = c.args.bytes.now in
+    let n = c.args.count in
+    let i = c.loop-i.i in
+    let size : length (take n c.as_chunks.result.0.now) ≡ n = length-take-le n c.as_chunks.result.0.now (omega (arith, c.as_chunks.ensures.front_len)) in
+    let below : i < n = omega (arith, c.loop-i-test.true) in
+    rw (c.read_finding.ensures, c.loop-i.invariant, get_or-take n c.as_chunks.result.0.now i _ below, c.as_chunks.ensures.front)
+    (next-kept n (length t / finding_size) t i _ (omega arith) below (omega arith))
 
 pub returns : goal.returns
 returns c =
-    let s = c.args.bytes.now in
-    let w : c.wide-count.result ≡ get_or s 4 0 = c.wide-count.ensures.0 in
-    c.accept.ensures ∙ rw (c.gather.ensures, w) (accepting s (passed s c.requires c.if-flags-gt3.false (omega arith) (omega arith)))
+    let n = c.args.count in
+    let size : length (take n c.as_chunks.result.0.now) ≡ n = length-take-le n c.as_chunks.result.0.now (omega (arith, c.as_chunks.ensures.front_len)) in
+    let all : c.loop-i.i ≡ n = omega arith in
+    rw (c.loop-i.invariant, all) (all-kept (findings_in c.args.bytes.now n) n (length-findings n c.args.bytes.now) (omega arith))

@@ -1,4 +1,4 @@
--- `spdlint::read_full` meets its contract: one more read goes on where those before it ended. Assumes nothing.
+-- `spdlint::read_full` meets its contract: one more read goes on where those before it ended. The search leaves it open. Assumes nothing.
 use Rattle.std.proofs.Common.{◌≡◌, ℕ, ◌+◌, ◌≤◌, List, ◌++◌, rules, length, take, sym, ap, ◌∙◌, subst, length-take-le}
 use Rattle.std.proofs.KnownBytes.{Consumes-trans}
 use Rattle.std.specs.Io.KnownBytes.{Consumes}

@@ -1,4 +1,4 @@
--- `spdlint::read_full` meets its contract. The invariant of its loop: what has been read is the front of the input. Assumes nothing.
+-- `spdlint::read_full` meets its contract. In its loop what has been read is the front of the input. The search finds no invariant. Assumes nothing.
 use Rattle.std.proofs.Common.{◌≡◌, ◌≤◌, ◌-◌, length, take}
 use Rattle.std.specs.Io.KnownBytes.{Consumes}
 use Rattle.spdlint.proofs.read_full.Given as goal

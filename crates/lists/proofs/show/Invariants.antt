@@ -1,9 +1,0 @@
--- `lists::show` is safe and ends: the place is one of the seventeen. Assumes nothing.
-use Prim.Native.Nat.{◌-◌, ◌≤◌}
-use Rattle.lists.proofs.show.Given as goal
-
-abbrev pub invariant-loop-i : goal.invariant-loop-i
-invariant-loop-i g l = l.i ≤ 17
-
-abbrev pub decreases-loop-i : goal.decreases-loop-i
-decreases-loop-i g l = 17 - l.i
