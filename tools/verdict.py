@@ -14,7 +14,8 @@ UNFIT = re.compile(r"has no field|is not in scope|that can be named|is no name|t
 
 # How the prover words a fact that fails: a goal that is left open, or an equation, a bound or a type in a proof that no longer holds.
 FAILS = re.compile(
-    r"it is not proved that|the two (?:types|values|sides) |: `omega`: the goal does not follow|: expected type `|: `rw`: no occurrence of the path's"
+    r"it is not proved that|the two (?:types|values|sides) |: `omega`: the goal does not follow"
+    r"|: `grind`: the goal does not follow\. The hypotheses hold, and the goal fails at |: expected type `|: `rw`: no occurrence of the path's"
     r"|: give a proof of that as the last argument|: computed as far as they go, "
 )
 
