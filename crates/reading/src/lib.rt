@@ -115,15 +115,11 @@ impl Refusal {
 // Its number and what it carries, as a listing prints them.
 impl fmt::Display for Refusal {
     fn fmt<W: fmt::Write>(&self, f: &mut fmt::Formatter<W>) -> fmt::Result {
-        let number = self.number();
-        match self {
-            Refusal::Truncated(offset) => write!(f, "{number} {offset}"),
-            Refusal::NotDdr5(byte2) => write!(f, "{number} {byte2}"),
-            Refusal::UnknownEnum { field, value } => write!(f, "{number} {field} {value}"),
-            Refusal::WrongOffset(count) => write!(f, "{number} {count}"),
-            Refusal::NegativeTime(place) => write!(f, "{number} {place}"),
-            _ => write!(f, "{number}"),
+        write!(f, "{}", self.number())?;
+        for value in [self.first(), self.second()].iter().take(self.carries()) {
+            write!(f, " {value}")?;
         }
+        Ok(())
     }
 }
 
