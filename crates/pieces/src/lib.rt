@@ -193,7 +193,6 @@ fn lay_part(kept: &mut [u8], at: usize, piece: &[u8])
     ensures { kept.new ≡ overlaid kept.old at piece.now }
 {
     if at < kept.len() {
-        let n = piece.len().min(kept.len() - at);
-        kept[at..at + n].copy_from_slice(&piece[..n]);
+        reading::copy_bytes(piece, &mut kept[at..]);
     }
 }

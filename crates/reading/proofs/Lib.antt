@@ -2,6 +2,7 @@ pub mod Picked
 pub mod Once
 pub mod Clip
 pub mod Laid
+pub mod Ends
 pub mod Lacking
 pub mod Smallest
 pub mod Reach

@@ -2,8 +2,9 @@
 //! Every offset and every length has an answer, also where their sum would not fit in a usize.
 #![tactic(auto)]
 
-ghost use Rattle.std.specs.Prelude.{◌≡◌, None, fold};
+ghost use Rattle.std.specs.Prelude.{◌≡◌, ◌+◌, ◌≤◌, ◌++◌, None, fold, length, take, drop};
 ghost use Rattle.reading.specs.View.{view};
+ghost use Rattle.reading.specs.Lent.{laid};
 ghost use Rattle.reading.specs.Refusal.{told, carried};
 ghost use Rattle.reading.specs.Bytes.{byte_at, inside_at, region_of};
 ghost use Rattle.reading.specs.Ranges.{ranges_of, first_lacking, smaller, missing_at, truncated_by};
@@ -154,6 +155,50 @@ pub fn slice(image: &[u8], offset: usize, len: usize) -> &[u8]
         &image[offset..offset + len]
     } else {
         &image[..0]
+    }
+}
+
+/// Copies bytes to the front of a lent place, as many as there is room for; what stands behind them stays.
+pub fn copy_bytes(bytes: &[u8], place: &mut [u8])
+    ensures { place.new ≡ take (length place.old) bytes.now ++ drop (length bytes.now) place.old }
+{
+    let n = bytes.len().min(place.len());
+    let bytes = &bytes[..n];
+    if n > 16 {
+        copy_each(bytes, place)
+    } else if n >= 8 {
+        copy_ends::<8>(bytes, place)
+    } else if n >= 4 {
+        copy_ends::<4>(bytes, place)
+    } else if n >= 2 {
+        copy_ends::<2>(bytes, place)
+    } else {
+        copy_each(bytes, place)
+    }
+}
+
+// One by one. Kept: a loop: `copy_from_slice` between two lent slices calls memmove, for which a C caller would have to link one more name.
+#[inline(always)]
+fn copy_each(bytes: &[u8], place: &mut [u8])
+    requires { length bytes.now ≤ length place.old }
+    ensures { place.new ≡ laid bytes.now place.old }
+{
+    for (i, &byte) in bytes.iter().enumerate() {
+        place[i] = byte;
+    }
+}
+
+// The first `W` and the last, which may overlap, each at once: a short piece by the loop takes up to half as long again.
+#[inline(always)]
+fn copy_ends<const W: usize>(bytes: &[u8], place: &mut [u8])
+    requires long { (W ≤ length bytes.now) × (length bytes.now ≤ W + W) }
+    requires room { length bytes.now ≤ length place.old }
+    ensures { place.new ≡ laid bytes.now place.old }
+{
+    let last = bytes.len() - W;
+    if let (Some(&front), Some(&back)) = (bytes.first_chunk::<W>(), bytes.last_chunk::<W>()) {
+        place[..W].copy_from_slice(&front);
+        place[last..last + W].copy_from_slice(&back);
     }
 }
 

@@ -1,5 +1,6 @@
 -- How large a call's count may be. Assumes nothing.
-use Rattle.std.proofs.Common.{◌≡◌, ℕ, ◌+◌, ◌≤◌, List, Bool, true, false, Ok, Err, length, ltb, arith}
+use Rattle.std.proofs.Common.{◌≡◌, ℕ, ◌+◌, ◌≤◌, List, Bool, true, false, Ok, Err, length, take, ltb, arith}
+use Rattle.std.proofs.lemmas.List.{take_all}
 use Rattle.reading.specs.Pick.{pick}
 use Rattle.reading.specs.Refusal.{Answer}
 use Rattle.reading.specs.declared.Refusal.TheVariants.{BufferTooSmall}
@@ -20,6 +21,10 @@ cas_few set = few set 40
 
 pub part_few : (s : List ℕ) → length (part_of s) ≤ 30
 part_few s = part-few s
+
+-- thirty places have room for all of a part number
+pub part_whole : (s : List ℕ) (room : ℕ) → 30 ≤ room → take room (part_of s) ≡ part_of s
+part_whole s room h = take_all room (part_of s) (omega (arith, part-few s))
 
 -- a size that is answered is the report's
 size : (short : Bool) (m n : ℕ) → ◌≡◌ {A = Answer ℕ} (pick short (Err BufferTooSmall) (Ok m)) (Ok n) → n ≡ m

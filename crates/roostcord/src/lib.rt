@@ -320,7 +320,7 @@ fn labelled(image: &[u8], mode: DateMode) -> Result<Labelled, Refusal>
     Ok(Labelled { block, part_len })
 }
 
-#[tactic(auto, using(crate::proofs::Small::part_few), unfolding(crate::specs::Numbers::listed_in, crate::specs::Numbers::part_list, crate::specs::Numbers::list_after))]
+#[tactic(auto, using(crate::proofs::Small::part_few, crate::proofs::Small::part_whole), unfolding(crate::specs::Numbers::listed_in, crate::specs::Numbers::part_list, crate::specs::Numbers::list_after))]
 fn part_number(image: &[u8], out: &mut [u8]) -> Result<usize, Refusal>
     ensures answer { result ≡ listed_in 30 (part_list image.now) (length out.old) }
     ensures later { out.new ≡ list_after 30 (part_list image.now) out.old }
@@ -331,7 +331,7 @@ fn part_number(image: &[u8], out: &mut [u8]) -> Result<usize, Refusal>
     }
     manufacturing::decode_manufacturing(image, DateMode::AsIs)?;
     let part = manufacturing::part_number(image);
-    out[..part.len()].copy_from_slice(part);
+    reading::copy_bytes(part, out);
     Ok(part.len())
 }
 
