@@ -15,7 +15,7 @@ ghost use Rattle.roostcord.specs.State.{edition_in, arrived_in, asked, short, fr
 use crc::SoundRead;
 use decoders::clocks::ClockTable;
 use manufacturing::DateMode;
-use numbers::{FINDING_NUMBERS, Labelled, put, put_findings, put_found};
+use numbers::{FINDING_NUMBERS, Labelled, put, put_findings, put_found, put_timings};
 use reading::Refusal;
 use rules::Edition;
 use word::{refusal_word, word};
@@ -71,7 +71,7 @@ pub fn roostcord_timings(image: &[u8], out: &mut [u32]) -> i32
     ensures answer { result ≡ word_of (listed_in 30 (timings_list image.now) (length out.old)) }
     ensures later { out.new ≡ list_after 30 (timings_list image.now) out.old }
 {
-    word(put(decoders::timing::decode_timings(image), out))
+    word(put_timings(image, out))
 }
 
 /// The supported CAS latencies of an image, ascending: up to forty numbers.

@@ -2,7 +2,8 @@
 ghost use Rattle.std.specs.Prelude.{◌≡◌, ℕ, ◌+◌, ◌*◌, ◌≤◌, ◌++◌, [], ◌∷◌, List, IfOk, length, take};
 ghost use Rattle.reading.specs.Lent.{laid};
 ghost use Rattle.findings.specs.Hold.{to_list};
-ghost use Rattle.roostcord.specs.Numbers.{identity_numbers, timing_numbers, clock_numbers, manufacturing_numbers, finding_numbers, ddr4_numbers, numbers_in, listed_in, list_after};
+ghost use Rattle.roostcord.specs.Numbers.{identity_numbers, timing_numbers, clock_numbers, manufacturing_numbers, finding_numbers, ddr4_numbers, numbers_in, timings_list, listed_in, list_after};
+ghost use Rattle.roostcord.specs.Parts.{first_timing_numbers};
 
 use ddr4::Ddr4;
 use decoders::clocks::ClockTable;
@@ -12,8 +13,10 @@ use findings::Finding;
 use manufacturing::Manufacturing;
 use reading::Refusal;
 
-// How many numbers a finding is.
+// How many numbers a finding is, and how many the timings are.
 pub(crate) const FINDING_NUMBERS: usize = 6;
+
+const TIMING_NUMBERS: usize = 30;
 
 // A record that C sees as `N` numbers.
 pub(crate) trait Record<const N: usize> {
@@ -51,12 +54,14 @@ impl Record<18> for IdentityAndBase {
     }
 }
 
+// All but the data rate, which `put_timings` lays behind them.
 // Kept: `as`, since each half of the mask is proved to fit.
-impl Record<30> for Timings {
-    ghost numbers_of = { timing_numbers };
+impl Record<29> for Timings {
+    ghost numbers_of = { first_timing_numbers };
 
     #[inline(always)]
-    fn numbers(&self) -> [u32; 30] {
+    #[tactic(auto, unfolding(crate::specs::Parts::first_timing_numbers))]
+    fn numbers(&self) -> [u32; 29] {
         let mask = self.supported_cas_latencies.0;
         [
             self.tckavg_min.0,
@@ -88,7 +93,6 @@ impl Record<30> for Timings {
             self.twtr_s.clocks.0.into(),
             self.trtp.time.0,
             self.trtp.clocks.0.into(),
-            self.base_data_rate_mt_s(),
         ]
     }
 }
@@ -190,9 +194,38 @@ pub(crate) fn put<const N: usize, R: Record<N> + Drop>(
     if out.len() < N {
         return Err(Refusal::ListTooShort);
     }
-    let numbers = answer?.numbers();
-    out[..N].copy_from_slice(&numbers);
+    let record = answer?;
+    lay(&record, out);
     Ok(N)
+}
+
+// A record's numbers over the front of a list that has room for them.
+#[inline(always)]
+fn lay<const N: usize, R: Record<N>>(decoded: &R, out: &mut [u32])
+    requires { N ≤ length out.old }
+    ensures front { out.new ≡ laid (R.numbers_of decoded.now) out.old }
+    ensures many { length (R.numbers_of decoded.now) ≡ N }
+{
+    let numbers = decoded.numbers();
+    out[..N].copy_from_slice(&numbers);
+}
+
+// The numbers of an image's timings likewise.
+// Kept: beside `put`: room is asked before the image is read, and the rate, which branches, comes behind the others, so that no number waits for either.
+#[inline(always)]
+#[tactic(auto, using(crate::proofs::Rate::rate_laid), unfolding(crate::specs::Numbers::listed_in, crate::specs::Numbers::list_after, crate::specs::Numbers::timings_list))]
+pub(crate) fn put_timings(image: &[u8], out: &mut [u32]) -> Result<usize, Refusal>
+    ensures answer { result ≡ listed_in 30 (timings_list image.now) (length out.old) }
+    ensures later { out.new ≡ list_after 30 (timings_list image.now) out.old }
+    ensures count { IfOk result (λ n. n ≡ 30) }
+{
+    if out.len() < TIMING_NUMBERS {
+        return Err(Refusal::ListTooShort);
+    }
+    let timings = decoders::timing::decode_timings(image)?;
+    lay(&timings, out);
+    out[TIMING_NUMBERS - 1] = timings.base_data_rate_mt_s();
+    Ok(TIMING_NUMBERS)
 }
 
 // The numbers of findings, one behind the other, behind the first `from` of a list that has room for them.
