@@ -7,7 +7,7 @@ ghost use Rattle.std.specs.Prelude.{◌≡◌, ◌+◌, ◌<◌, ◌^◌};
 ghost use Rattle.rules.specs.Rules.{on_ladder};
 
 use decoders::timing::Picoseconds;
-use findings::{Finding, Severity};
+use findings::{Finding, Findings, Severity};
 use printing::text;
 use rules::{Edition, RatedTimings};
 use std::io;
@@ -46,15 +46,9 @@ fn profile(rate: u32) -> RatedTimings {
     }
 }
 
-// Whether the rule finds fault with the rate.
-fn is_found(rate: u32, edition: Edition) -> bool {
-    0 < rules::rated_findings(profile(rate), edition).count
-}
-
 // Whether the rule says of the rate what the table says: nothing of 0 and of the table's own, and of every other its finding and no more.
-fn agrees(rate: u32, edition: Edition) -> bool {
-    let said = rules::rated_findings(profile(rate), edition);
-    if rate == 0 || is_listed(rate, edition) {
+fn agrees(rate: u32, listed: bool, said: &Findings) -> bool {
+    if rate == 0 || listed {
         said.count == 0
     } else {
         let standard_rate = Finding {
@@ -69,21 +63,44 @@ fn agrees(rate: u32, edition: Edition) -> bool {
     }
 }
 
-// Of the rate `first` and those behind it: how many the table has, how many the rule found fault with, and of how many the two say different
-// things.
+// Of a run of rates: how many the table has, how many the rule found fault with, and of how many the two say different things.
+#[derive(Clone, Copy)]
+struct Counts {
+    listed: u32,
+    found: u32,
+    differ: u32,
+}
+
+impl Counts {
+    // One rate more. The table is searched once for it and the rule asked once.
+    fn and(self, rate: u32, edition: Edition) -> Self {
+        let listed = is_listed(rate, edition);
+        let said = rules::rated_findings(profile(rate), edition);
+        Counts {
+            listed: self.listed.saturating_add(listed.into()),
+            found: self.found.saturating_add((0 < said.count).into()),
+            differ: self
+                .differ
+                .saturating_add((!agrees(rate, listed, &said)).into()),
+        }
+    }
+}
+
+// Of the rate `first` and those behind it.
 fn compare(rt: &impl Print, first: u32, edition: Edition) -> io::Result<()>
     requires { first + 20000 < 2 ^ 32 }
 {
     let last = first + MORE;
-    let listed = (first..=last)
-        .filter(|&rate| is_listed(rate, edition))
-        .count();
-    let found = (first..=last)
-        .filter(|&rate| is_found(rate, edition))
-        .count();
-    let differ = (first..=last)
-        .filter(|&rate| !agrees(rate, edition))
-        .count();
+    let none = Counts {
+        listed: 0,
+        found: 0,
+        differ: 0,
+    };
+    let Counts {
+        listed,
+        found,
+        differ,
+    } = (first..=last).fold(none, |counts, rate| counts.and(rate, edition));
     println!(rt;
         " rates {first} to {last}: in the table {listed}, findings {found}, differences {differ}"
     )
