@@ -526,6 +526,14 @@ impl State {
         self.act(rt, bytes)
     }
 
+    // So many records, one behind the other.
+    fn records(&mut self, rt: &impl Print, input: &mut impl Read, count: u32) -> Result<(), Stop> {
+        for _ in 0..count {
+            self.step(rt, input)?;
+        }
+        Ok(())
+    }
+
     // The letters, the count of records, the records, and nothing behind them.
     fn replay(&mut self, rt: &impl Print, input: &mut impl Read) -> Result<(), Stop> {
         let mut head = [0u8; 12];
@@ -533,14 +541,16 @@ impl State {
         if !head.starts_with(LIST_LETTERS) {
             return Err(Stop::Malformed);
         }
-        for _ in 0..le32(&head, 8) {
-            self.step(rt, input)?;
+        let answer = self.records(rt, input, le32(&head, 8));
+        if let Err(Stop::Failed(_)) = answer {
+            return answer;
         }
+        // A byte behind the records is asked for also where one of them is malformed: so a read that fails there is told, too.
         let mut one = [0u8; 1];
         if fill(input, &mut one)? {
             return Err(Stop::Malformed);
         }
-        Ok(())
+        answer
     }
 }
 
