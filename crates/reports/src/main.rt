@@ -24,6 +24,9 @@ const FILLER: u8 = 255;
 // Every flag.
 const FLAGS: u8 = 3;
 
+// The most ranges that are asked for at once.
+const RANGES: usize = 2;
+
 fn wrote(rt: &impl Print, answer: Result<usize, Refusal>) -> io::Result<()> {
     match answer {
         Ok(n) => print!(rt; " {n} bytes"),
@@ -353,7 +356,7 @@ fn regions(rt: &impl Print, image: &[u8; 4]) -> io::Result<()> {
     )
 }
 
-// The first byte of some ranges that an image lacks.
+// The first byte of some ranges that an image lacks, by either call.
 // Kept: two tables beside each other, since `first_missing` takes them so, and a start may stand without a length.
 fn lacks(
     rt: &impl Print,
@@ -363,10 +366,23 @@ fn lacks(
     lengths: &[u16],
 ) -> io::Result<()> {
     text(rt, label)?;
-    match reading::first_missing(image, starts, lengths) {
+    let missing = reading::first_missing(image, starts, lengths);
+    if reading::first_missing_in(image, &ranges_of(starts, lengths)) != missing {
+        text(rt, b" BY RANGES ANOTHER:")?;
+    }
+    match missing {
         Some(offset) => println!(rt; " {offset}"),
         None => text(rt, b" nothing\n"),
     }
+}
+
+// The same ranges as pairs, by which the decoders ask, and behind them ranges of no byte.
+fn ranges_of(starts: &[u16], lengths: &[u16]) -> [(u16, u16); RANGES] {
+    let mut ranges = [(0, 0); RANGES];
+    for (range, (&start, &len)) in ranges.iter_mut().zip(starts.iter().zip(lengths)) {
+        *range = (start, len);
+    }
+    ranges
 }
 
 // The order of the ranges does not matter, an empty one has no byte, and a start without a length is no range.
