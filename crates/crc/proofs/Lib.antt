@@ -3,6 +3,7 @@ pub mod Laws
 pub mod Fold
 pub mod Eights
 pub mod Base
+pub mod Once
 pub mod Reach
 pub mod Refused
 pub mod Worked

@@ -4,4 +4,5 @@ pub mod Stated
 pub mod Trip
 pub mod Behind
 pub mod Fits
+pub mod Loaded
 pub mod Once

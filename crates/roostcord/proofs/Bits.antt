@@ -25,7 +25,7 @@ use Rattle.manufacturing.specs.Block.{manufacturing_ranges, manufacturing_at, ma
 use Rattle.manufacturing.specs.declared.DateMode.{DateMode}
 use Rattle.manufacturing.specs.declared.DateMode.TheVariants.{AsIs}
 use Rattle.manufacturing.proofs.Refused.{manufacturing-refusals}
-use Rattle.crc.specs.Base.{crc_ranges, base_crc_of, sound_in, sound_read_of}
+use Rattle.crc.specs.Base.{crc_ranges, base_crc_of, sound_in, sound_read_of, sound_number_of}
 use Rattle.crc.proofs.Refused.{crc-refusals}
 use Rattle.ddr4.specs.Module.{ddr4_ranges, ddr4_at, ddr4_of}
 use Rattle.ddr4.proofs.Refused.{ddr4-refusals}
@@ -137,6 +137,9 @@ crc-bits s =
 pub sound-bits : (first second : List ℕ) → Fits (sound_read_of first second)
 unfolding sound_read_of
 sound-bits first second = either Fits (sound_in first) tt (either Fits (sound_in second) tt plain)
+
+pub sound-number-bits : (first second : List ℕ) → Fits (sound_number_of first second)
+sound-number-bits first second = on_fits (sound_read_of first second) _ (sound-bits first second) (λ r. tt)
 
 -- ---- a call that is given an edition
 chosen-bits : {A : Type 0} (n : ℕ) (answer : Edition → Answer A) → ((e : Edition) → Fits (answer e)) → Fits (chosen n answer)
