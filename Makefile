@@ -18,7 +18,7 @@ help:
 	@echo 'make test       prove every crate, try every must-fail edit, run every program and test (minutes); STRICT=1 fails if one did not run'
 	@echo 'make judge      compare with the Rust linter spdr: make judge IMAGES=number SPDR=place of its sources (a minute)'
 	@echo 'make bench      time it against spdr, as Markdown: make bench SPDR=place (half a minute)'
-	@echo 'make strength   change the code in some 670 small ways and have the prover judge each (an hour or two; tools/strength.txt)'
+	@echo 'make strength   change the code in some 540 small ways and have the prover judge each (an hour or two; tools/strength.txt)'
 	@echo 'make cited      have the prover judge anew what docs/PROMISES.md cites of functions that have changed since (minutes)'
 	@echo 'make surface    check docs/PROMISES.md against the public calls (a second)'
 	@echo 'make list       check the list that replay runs on against the Rust linter, where that is at hand (SPDR=place)'
