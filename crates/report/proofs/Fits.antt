@@ -24,7 +24,7 @@ use Rattle.report.specs.Write.{fitted, write_of, found_of, written_over, flags_f
 use Rattle.report.proofs.Trip.{Reportable, written-reads}
 
 -- a list by value is written as it is
-found-held : (flags : ℕ) (l : List Finding) (room : ℕ) → length l ≤ 15 → found_of flags (holding l) room ≡ write_of flags l room
+pub found-held : (flags : ℕ) (l : List Finding) (room : ℕ) → length l ≤ 15 → found_of flags (holding l) room ≡ write_of flags l room
 unfolding found_of holding
 found-held flags l room h = rw (le-ltb 15 (length l) h, list_held l)
 

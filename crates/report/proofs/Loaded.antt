@@ -1,10 +1,9 @@
 -- A lent list that is loaded is written as it is; and what `fill` leaves of a lent list is what was read. A list over fifteen is refused
 -- without its findings, and a report has at most fifteen. Assumes nothing.
-use Prim.Native.Nat.{ℕ, ◌≤◌}
+use Prim.Native.Nat.{ℕ}
 use mathlib.Core.Path.{◌≡◌, ap, ◌∙◌}
 use mathlib.Core.List.{List}
-use native.Mathlib.Omega.{arith}
-use borrow.Author.Tests.{le-ltb, ltb-false}
+use borrow.Author.Tests.{ltb-false}
 use lib.Dec.{ltb}
 use lib.ListN.{length, take}
 use Rattle.reading.specs.Lent.{laid}
@@ -12,19 +11,15 @@ use Rattle.reading.specs.Refusal.{Answer}
 use Rattle.reading.proofs.Picked.{by-test}
 use Rattle.findings.specs.declared.Finding.{Finding}
 use Rattle.findings.specs.declared.Findings.{Findings}
-use Rattle.findings.specs.Hold.{holding}
 use Rattle.findings.specs.Lent.{places_of, loaded_of}
 use Rattle.findings.proofs.Laws.{load-held, list_held}
 use Rattle.rules.proofs.Filled.{filled-by}
 use Rattle.report.specs.Write.{write_of, found_of, written_over}
 use Rattle.report.specs.Read.{content_of, contained, reading_of, read_after}
+use Rattle.report.proofs.Fits.{found-held}
 use Rattle.report.proofs.Trip.{few_held}
 
 -- ---- writing
-found-held : (flags : ℕ) (l : List Finding) (room : ℕ) → length l ≤ 15 → found_of flags (holding l) room ≡ write_of flags l room
-unfolding found_of holding
-found-held flags l room h = rw (le-ltb 15 (length l) h, list_held l)
-
 module _ (flags : ℕ) (ys : List Finding) (room : ℕ) where
   pub load-answer : found_of flags (loaded_of ys) room ≡ write_of flags ys room
   unfolding found_of write_of

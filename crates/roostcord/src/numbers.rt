@@ -18,7 +18,7 @@ pub(crate) const FINDING_NUMBERS: usize = 6;
 
 const TIMING_NUMBERS: usize = 30;
 
-// A record that C sees as `N` numbers.
+// The `N` numbers as which C sees a record, or all of them but the last.
 pub(crate) trait Record<const N: usize> {
     ghost numbers_of: { Self → List ℕ };
 
